@@ -1,0 +1,16 @@
+pub mod Cells
+pub mod Sorts
+pub mod Near
+pub mod Signs
+pub mod Capitals
+pub mod Numbers
+pub mod Forms
+pub mod Pairs
+pub mod Places
+pub mod Rows
+pub mod Castilian
+pub mod Normal
+pub mod Refusals
+pub mod Answers
+pub mod Worked
+pub mod Demands
