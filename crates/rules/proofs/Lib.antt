@@ -6,3 +6,5 @@ pub mod Machine
 pub mod Places
 pub mod Rows
 pub mod Pieces
+pub mod Reader
+pub mod Profile
