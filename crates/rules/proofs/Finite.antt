@@ -1,13 +1,14 @@
 -- Tests over every member of a finite type. A fact about a finite machine is one Bool, computed over all of its states; `at` turns it into
 -- the fact at each state, so that no proof has a case for each. What a test finds at a state is a list of Bools, and `Hold` lets a proof
 -- take the one that it wants by its place. Assumes nothing.
-use mathlib.Core.Path.{_≡_, refl, subst}
+use mathlib.Core.Path.{_≡_, refl, sym, subst}
+use mathlib.Core.Logic.{_⊎_, inl, inr}
 use mathlib.Core.Bool.{Bool, true, false, _&&_, _||_, not, Bool·beq}
 use mathlib.Core.List.{List, [], _∷_}
 use mathlib.Core.Option.{Option, none, some}
-use Prim.Native.Nat.{ℕ}
+use Prim.Native.Nat.{ℕ, _≤_, _<_}
 use native.Mathlib.Omega.{arith}
-use lib.Dec.{T, eqb, eqb-refl}
+use lib.Dec.{T, eqb, eqb-refl, leb, leb→le, nleb→lt}
 
 pub and-left : (a b : Bool) → T (a && b) → T a
 and-left true b t = tt
@@ -33,6 +34,14 @@ beq-same true true t = refl
 beq-same true false t = absurd t
 beq-same false true t = absurd t
 beq-same false false t = refl
+
+-- an order, decided
+pub le-or-lt : (m n : ℕ) → (m ≤ n) ⊎ (n < m)
+le-or-lt m n = go (leb m n) refl
+  where
+    go : (b : Bool) → leb m n ≡ b → (m ≤ n) ⊎ (n < m)
+    go true e = inl (leb→le m n (subst T (sym e) tt))
+    go false e = inr (nleb→lt m n (subst (λ (b : Bool). T (not b)) (sym e) tt))
 
 -- no value is both `none` and `some`
 pub nothing : {A B : Type 0} {a : A} → none ≡ some a → B

@@ -7,4 +7,7 @@ pub mod Places
 pub mod Rows
 pub mod Pieces
 pub mod Reader
+pub mod Normal
 pub mod Profile
+pub mod Castilian
+pub mod Signs

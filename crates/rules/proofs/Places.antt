@@ -18,7 +18,7 @@ use Rattle.rules.specs.Pairs.{Opens, markOf, markFits, fits, openAfter}
 use Rattle.rules.specs.Places.{Place, Faulty, without-sign, against-pair-rule, out-of-form, sharing-cells, classAt, sideOf, near, nearOf, classOf, Cause, written, lacksSign, breaksPair, outsideForm, sharesCells, hasNoSign, isOutsideForm, wouldShareCells, Outcome, fault, silent, sign, outcome}
 use Rattle.rules.specs.Rows.{at, outcomeAt, fitsAt}
 use Rattle.rules.proofs.Finite.{nothing, every2, at2, every3, at3, beq-same, Hold, hold, holds}
-use Rattle.rules.proofs.Sides.{Past, free, plain-on, past-on, past-bar, past-stop, past-dash, past-hyphen, past-feminine, Future, rest, _was_, in-run, in-mixed, in-number, in-denominator, at-point, caps-next, mixed-next, digit-next, mark-next, form-next, rule, look, after, future}
+use Rattle.rules.proofs.Sides.{Past, free, plain-on, past-on, past-bar, past-stop, past-dash, past-hyphen, past-feminine, Future, rest, _was_, in-run, in-mixed, in-denominator, in-digits, at-point, caps-next, mixed-next, digit-next, mark-next, form-next, rule, look, after, future}
 use Rattle.rules.proofs.Enumerations.{classes, pasts, futures, way-same}
 use Rattle.rules.proofs.Machine.{_by_}
 
@@ -35,7 +35,7 @@ ahead-of (c ∷ a) = look c (ahead-of a)
 unfoldable pub view : Past → Future → Near
 view p f =
     record {
-      afterDigit = in-number p || in-denominator p;
+      afterDigit = in-digits p;
       afterBar = p was past-bar;
       afterFeminine = p was past-feminine;
       afterHyphen = p was past-hyphen;

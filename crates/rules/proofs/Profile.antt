@@ -15,7 +15,8 @@ use Rattle.rules.specs.Signs.{Way, Sign}
 use Rattle.rules.specs.Pairs.{Opens, turn, openAfter}
 use Rattle.rules.specs.Places.{classAt, Outcome, fault, silent, sign}
 use Rattle.rules.specs.Rows.{sortIn, itemIn, itemsIn, Reads, Verdict, good, verdictOf, verdictFrom, signsOf}
-use Rattle.rules.specs.Demands.{OneText}
+use Rattle.rules.specs.Normal.{normalOf}
+use Rattle.rules.specs.Demands.{OneText, AcceptedIsNormal}
 use Rattle.rules.proofs.Finite.{nothing, every, every3, at3, and-left, and-right}
 use Rattle.rules.proofs.Sides.{Past, free, rule, after, future}
 use Rattle.rules.proofs.Modes.{Mode, Free}
@@ -23,6 +24,7 @@ use Rattle.rules.proofs.Enumerations.{classes, ways, modes, way-same}
 use Rattle.rules.proofs.Machine.{_by_, step, at-rest, mode-at, waiting, lead-of, ready}
 use Rattle.rules.proofs.Places.{past}
 use Rattle.rules.proofs.Rows.{verdict-is, whole-row, reads-good, good-reads}
+use Rattle.rules.proofs.Normal.{normal-codes, good-is-normal}
 use Rattle.rules.proofs.Pieces.{Piece, word, words, due, lead, items, put, pieces, Good, good-of-verdict, verdict-of-good, Runs, row-words, runs, proper-code, Proper, printed-from, texts, sign-of, signs-is, signs-are-pieces}
 use Rattle.rules.proofs.Reader.{In, in-left, in-right, in-cases, every-in, walk, ways-of, all-pieces, all-apart, all-begin, AllIn, reads, sound}
 
@@ -139,6 +141,8 @@ pub record Sane (tb : Table) : Type 0 where
   pub codes : T (every (λ (i : Item). proper-code shares (i .0) (i .1)) tb)
   pub has-stop : sortIn tb 0x2e ≡ fullStop shares
   pub has-bar : sortIn tb 0x2044 ≡ fractionBar
+  -- what normalising replaces, digits and ordinals
+  pub normal : T (normal-codes tb)
 
 -- all kinds closed, where a text begins
 abbrev pub shut : Opens
@@ -212,6 +216,13 @@ module _ (tb : Table) (sane : Sane tb) where
         print = ap (map (λ (i : Item). i .0)) (printed-from (sane .shares) free shut a g (proper t) tt) ∙ codes-of tb t;
         signs = signs-is [] [] a ∙ sym (signs-are-pieces (sane .shares) free shut a g (proper t) tt);
       }
+
+  pub accepted-is-normal : AcceptedIsNormal tb
+  unfolding verdictOf past openAfter normalOf
+  accepted-is-normal t x =
+      let a : List Item = itemsIn tb t in
+      good-is-normal tb (sane .normal) false free shut t (λ b. absurd b)
+      (good-of-verdict free shut 0 a (sym (verdict-is [] 0 a) ∙ reads-good tb (x .0) t (x .1) .0))
 
   -- THEOREM A: an accepted text is read back from its row
   pub reads-back : (r : Row) (t : Text) → Reads tb r t → decode r ≡ some t

@@ -57,6 +57,9 @@ in-number p = p was plain-on || p was past-on
 abbrev pub in-denominator : Past → Bool
 in-denominator p = p was under-one || p was under
 
+abbrev pub in-digits : Past → Bool
+in-digits p = in-number p || in-denominator p
+
 -- directly after a point or comma of a number
 abbrev pub at-point : Past → Bool
 at-point p = p was past-stop || p was past-point
@@ -151,7 +154,7 @@ rule-capital p f =
 
 unfoldable pub rule : Past → Class → Future → Outcome
 rule p aToJ f =
-    cond (in-number p || in-denominator p) (sign separated)
+    cond (in-digits p) (sign separated)
     (cond (at-point p || p was past-feminine) (fault sharesCells) (sign bare))
 rule p otherSmall f = sign bare
 rule p capital f = sign (rule-capital p f)
