@@ -11,3 +11,6 @@ pub mod Normal
 pub mod Profile
 pub mod Castilian
 pub mod Signs
+pub mod Answers
+pub mod Steps
+pub mod Worked

@@ -60,9 +60,6 @@ unfolding lead-of
 points-signs [] = tt
 points-signs (s ∷ ss) = (go (s .0 by denominator) (s .0 by ordinalMark), points-signs ss)
   where
-    shown-length : ℕ → ℕ
-    shown-length n = length (wait-text n ++ s .1 .0 ∷ [])
-
     go : (x y : Bool) → (length (wait-text (cond x 0x2044 (cond y 0x2e 0)) ++ s .1 .0 ∷ []) ≡ 1)
         ⊎ (length (wait-text (cond x 0x2044 (cond y 0x2e 0)) ++ s .1 .0 ∷ []) ≡ 2)
     go true y = inr refl

@@ -15,12 +15,12 @@ pub data Question : Type 0 where
   stored : Row → Question
 
 -- cells, or a refusal's number and its second number
-pub data Shown : Type 0 where
-  row : Row → Shown
-  no : ℕ → ℕ → Shown
+pub data Expected : Type 0 where
+  row : Row → Expected
+  number : ℕ → ℕ → Expected
 
 abbrev pub Line : Type 0
-Line = Question × Shown
+Line = Question × Expected
 
 infix 60 _gets_
 infix 60 _refused_at_
@@ -28,7 +28,7 @@ abbrev _gets_ : String → List ℕ → Line
 s gets ds = (offered (print s), row (cells ds))
 
 abbrev _refused_at_ : String → ℕ → ℕ → Line
-s refused n at m = (offered (print s), no n m)
+s refused n at m = (offered (print s), number n m)
 
 unfoldable pub lines : List Line
 lines =
@@ -47,12 +47,12 @@ lines =
     ∷ ("?" refused 3 at 0)
     ∷ ("a--b" refused 5 at 2)
     ∷ ("10 %" gets 3456 ∷ 1 ∷ 245 ∷ 0 ∷ 456 ∷ 356 ∷ [])
-    ∷ (stored (cells (46 ∷ 1 ∷ 46 ∷ 12 ∷ [])), no 8 0)
+    ∷ (stored (cells (46 ∷ 1 ∷ 46 ∷ 12 ∷ [])), number 8 0)
     ∷ []
 
-abbrev pub shownAs : Answer → Shown
+abbrev pub shownAs : Answer → Expected
 shownAs (gives r) = row r
-shownAs (refuses x) = no (numberOf x) (secondOf x)
+shownAs (refuses x) = number (numberOf x) (secondOf x)
 
 -- the rules' answer, with room enough for any
 abbrev pub Answered : Question → Answer → Type 0
