@@ -10,6 +10,7 @@ use Rattle.rules.specs.Rows.{sortIn}
 use Rattle.rules.specs.Castilian.{castilian}
 use Rattle.rules.proofs.Finite.{every}
 use Rattle.rules.proofs.Machine.{step, at-rest}
+use Rattle.rules.proofs.Pairs.{kinds-known}
 use Rattle.rules.proofs.Normal.{normal-codes}
 use Rattle.rules.proofs.Pieces.{proper-code}
 use Rattle.rules.proofs.Reader.{all-pieces, all-apart, all-begin, ways-of, begins-as, sees, may, must, look-of, contrary, rivals, both-go, goes-both, diverge, apart, begins}
@@ -28,7 +29,7 @@ unfolding proper-word all-pieces castilian ways-of class dots isDigitCell signCe
 words-hold = tt
 
 pub sane : Sane castilian
-unfolding distinct castilian sortIn dots proper-code normal-codes class isDigitCell
+unfolding distinct castilian sortIn dots proper-code normal-codes kinds-known markOf class isDigitCell
 sane =
     record {
       apart = apart-holds;
@@ -40,4 +41,5 @@ sane =
       has-stop = refl;
       has-bar = refl;
       normal = tt;
+      kinds = tt;
     }

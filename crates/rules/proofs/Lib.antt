@@ -6,11 +6,13 @@ pub mod Machine
 pub mod Places
 pub mod Rows
 pub mod Pieces
-pub mod Reader
+pub mod Pairs
 pub mod Normal
+pub mod Reader
 pub mod Profile
 pub mod Castilian
 pub mod Signs
 pub mod Answers
 pub mod Steps
 pub mod Worked
+pub mod Demands

@@ -24,6 +24,7 @@ use Rattle.rules.proofs.Enumerations.{classes, ways, modes, way-same}
 use Rattle.rules.proofs.Machine.{_by_, step, at-rest, mode-at, waiting, lead-of, ready}
 use Rattle.rules.proofs.Places.{past}
 use Rattle.rules.proofs.Rows.{verdict-is, whole-row, reads-good, good-reads}
+use Rattle.rules.proofs.Pairs.{kinds-known}
 use Rattle.rules.proofs.Normal.{normal-codes, good-is-normal}
 use Rattle.rules.proofs.Pieces.{Piece, word, words, due, lead, items, put, pieces, Good, good-of-verdict, verdict-of-good, Runs, row-words, runs, proper-code, Proper, printed-from, texts, sign-of, signs-is, signs-are-pieces}
 use Rattle.rules.proofs.Reader.{In, in-left, in-right, in-cases, every-in, walk, ways-of, all-pieces, all-apart, all-begin, AllIn, reads, sound}
@@ -143,6 +144,8 @@ pub record Sane (tb : Table) : Type 0 where
   pub has-bar : sortIn tb 0x2044 ≡ fractionBar
   -- what normalising replaces, digits and ordinals
   pub normal : T (normal-codes tb)
+  -- every mark is of a kind that is counted
+  pub kinds : T (kinds-known tb)
 
 -- all kinds closed, where a text begins
 abbrev pub shut : Opens

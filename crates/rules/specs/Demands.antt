@@ -1,7 +1,7 @@
 -- What is demanded of the rules: the letter's three demands, and paper 01's own, each a type that is proved under the same name with hyphens
 -- (`OneText` by `one-text`) in proofs/Demands.antt. They are stated over a profile's table and hold of `castilian`. Start here. Assumes nothing.
-use mathlib.Core.Bool.{Bool}
-use mathlib.Core.List.{List, [], _∷_, _++_}
+use mathlib.Core.Bool.{Bool, false}
+use mathlib.Core.List.{List, [], _∷_, _++_, reverse}
 use mathlib.Core.Logic.{_↔_, _⊎_}
 use mathlib.Core.Path.{_≡_}
 use Prim.Native.Nat.{ℕ, _*_, _≤_, _<_}
@@ -9,9 +9,10 @@ use lib.ListN.{length}
 use Rattle.rules.specs.Cells.{Text, Row}
 use Rattle.rules.specs.Sorts.{Table}
 use Rattle.rules.specs.Signs.{Sign, printOf, cellsOf}
+use Rattle.rules.specs.Pairs.{openAfter}
 use Rattle.rules.specs.Normal.{normalOf}
 use Rattle.rules.specs.Places.{Cause, breaksPair}
-use Rattle.rules.specs.Rows.{Reads, Accepted, Fault, FirstFault, Faultless, LeftOpen, Verdict, good, bad, verdictOf, signsOf}
+use Rattle.rules.specs.Rows.{itemsIn, Reads, Accepted, Fault, FirstFault, Faultless, LeftOpen, Verdict, good, bad, verdictOf, signsOf}
 use Rattle.rules.specs.Refusals.{Refusal, noText, longestText}
 use Rattle.rules.specs.Answers.{Answer, gives, refuses, PrintAnswer, ProperRow, ReadsAs, RowAnswer, Shown, StepAnswer, shows, Stepped}
 use Rattle.rules.specs.Worked.{lines, AllHold}
@@ -87,6 +88,10 @@ VerdictIsLeast tb = (t : Text) → VerdictMeans tb t (verdictOf tb t)
 -- a text has a row exactly when no place has a fault and nothing is open at the end
 abbrev pub RowExactly : Table → Type 0
 RowExactly tb = (t : Text) → Accepted tb t ↔ (Faultless tb t × (LeftOpen tb t → ⊥))
+
+-- "and all are closed at the end": if nothing is left open, no kind at all is, whatever its number
+abbrev pub ClosedMeansAll : Table → Type 0
+ClosedMeansAll tb = (t : Text) → (LeftOpen tb t → ⊥) → (k : ℕ) → openAfter (reverse (itemsIn tb t)) k ≡ false
 
 -- "The row of an accepted text never has more than three cells for each normalised code point."
 abbrev pub ThreeCellsEach : Table → Type 0
