@@ -2,8 +2,8 @@
 # prints: crates/rules/proofs/Enumerations.antt
 #
 # Makes each finite enumeration of the rules a `Finite` type, so that a test over all of its members is one computed Bool.
-# For each it prints the list of its members, the law that a test of the whole list holds at each of them, and the law
-# that two members with the same number are the same.
+# For each it prints the list of its members, the law that a test of the whole list holds at each of them, a number for
+# each member, and the law that two members with the same number are the same.
 #
 # The members are read from the declarations, so that they stand in one place only. A declaration looks like
 #
@@ -14,7 +14,7 @@
 #
 # Nothing printed is trusted: the prover refuses a member that is left out or that stands at another place than its number.
 # To add an enumeration, add a line to the table below: its name, the file that declares it, and the name of the `Finite`
-# type to print. Beside an enumeration `Class` its file declares `classNumber`, the place of each member in the list.
+# type to print. Where its file declares the numbers too (`classNumber` beside `Class`), those are used and none printed.
 set -eu
 cd "$(dirname "$0")/.."
 
@@ -32,11 +32,12 @@ function fail(message) {
 # Reads the members of the enumeration k into member[k, 1], member[k, 2] ..
 function read_members(k,    line, word, words, i, inside, status) {
     while ((status = (getline line < file[k])) > 0) {
+        if (index(line, "abbrev pub " small[k] "Number :") == 1) { numbered[k] = 1; continue }
         if (line == "pub data " name[k] " : Type 0 where") { inside = 1; continue }
         if (!inside) continue
         sub(/(^|[ \t]+)--.*/, "", line)
         if (line ~ /^[ \t]*$/) continue
-        if (line !~ /^[ \t]/) break
+        if (line !~ /^[ \t]/) { inside = 0; continue }
         words = split(line, word, " ")
         if (words < 3 || word[words - 1] != ":" || word[words] != name[k])
             fail(file[k] ": not a line of members of " name[k] ": " line)
@@ -63,7 +64,7 @@ function print_uses(    k, i, j, names) {
             if (file[j] != file[k]) continue
             names = names (names == "" ? "" : ", ") name[j]
             for (i = 1; i <= size[j]; i++) names = names ", " member[j, i]
-            names = names ", " small[j] "Number"
+            if (numbered[j]) names = names ", " small[j] "Number"
         }
         print "use " module(file[k]) ".{" names "}"
     }
@@ -108,8 +109,14 @@ function print_enumeration(k,    i, tails, x, X, first) {
     print "abbrev pub " plural[k] " : Finite " X
     print plural[k] " = record { members = " x "-list; at = λ f t. " x "-every f (all f " x "-list t) }"
 
+    if (!numbered[k]) {
+        print ""
+        print "abbrev pub " x "Number : " X " → ℕ"
+        for (i = 1; i <= size[k]; i++) print x "Number " member[k, i] " = " (i - 1)
+    }
+
     print ""
-    print "pub " x "-back-number : (x : " X ") → getD " x "-list (" x "Number x) " first " ≡ x"
+    print x "-back-number : (x : " X ") → getD " x "-list (" x "Number x) " first " ≡ x"
     for (i = 1; i <= size[k]; i++) print x "-back-number " member[k, i] " = refl"
 
     print ""
@@ -147,7 +154,9 @@ END {
 ' <<'TABLE'
 Class   crates/rules/specs/Sorts.antt    classes
 Way     crates/rules/specs/Signs.antt    ways
-Past    crates/rules/proofs/Sides.antt   pasts
-Future  crates/rules/proofs/Sides.antt   futures
-Mode    crates/rules/proofs/Modes.antt   modes
+Cause   crates/rules/specs/Places.antt   causes
+Past    crates/rules/proofs/States.antt  pasts
+Future  crates/rules/proofs/States.antt  futures
+Mode    crates/rules/proofs/States.antt  modes
+Kind    crates/rules/proofs/States.antt  kinds
 TABLE

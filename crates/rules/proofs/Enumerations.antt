@@ -8,9 +8,9 @@ use lib.Dec.{T, eqb, eqb→eq}
 use lib.ListN.{getD}
 use Rattle.rules.proofs.Finite.{Finite, All, all}
 use Rattle.rules.specs.Sorts.{Class, aToJ, otherSmall, capital, one, otherDigit, aStop, aComma, aHyphen, aDash, aBar, masculine, feminine, aPercent, otherSign, unlisted, classNumber}
-use Rattle.rules.specs.Signs.{Way, bare, oneCapital, allCapitals, separated, firstDigit, firstLower, lower, denominator, ordinalMark, inside, wayNumber}
-use Rattle.rules.proofs.Sides.{Past, free, lone, caps, mixed, plain-on, past-on, under-one, under, past-bar, past-stop, past-point, past-dash, past-hyphen, past-feminine, past-percent, pastNumber, Future, rest, caps-on, mixed-on, digits-on, form-on, bar-on, stop-on, mark-on, futureNumber}
-use Rattle.rules.proofs.Modes.{Mode, Free, Lone, Owing, Mixed, Whole1, Whole2, Num, Low, Under1, Under, Mid, End, Hyphen, Dash, Fem, Percent, modeNumber}
+use Rattle.rules.specs.Signs.{Way, bare, oneCapital, allCapitals, separated, firstDigit, firstLower, lower, denominator, ordinalMark, inside}
+use Rattle.rules.specs.Places.{Cause, lacksSign, breaksPair, outsideForm, sharesCells}
+use Rattle.rules.proofs.States.{Past, free, lone, caps, mixed, plain-on, past-on, under-one, under, past-bar, past-stop, past-point, past-dash, past-hyphen, past-feminine, past-percent, Future, rest, caps-on, mixed-on, digits-on, form-on, bar-on, stop-on, mark-on, Mode, Free, Lone, Owing, Mixed, Whole1, Whole2, Num, Low, Under1, Under, Mid, End, Hyphen, Dash, Fem, Percent, Kind, a-digit, a-hyphen, a-lower-zero}
 
 -- Class
 abbrev pub class-list : List Class
@@ -38,7 +38,7 @@ class-every f a unlisted = a .1 .1 .1 .1 .1 .1 .1 .1 .1 .1 .1 .1 .1 .1 .0
 abbrev pub classes : Finite Class
 classes = record { members = class-list; at = λ f t. class-every f (all f class-list t) }
 
-pub class-back-number : (x : Class) → getD class-list (classNumber x) aToJ ≡ x
+class-back-number : (x : Class) → getD class-list (classNumber x) aToJ ≡ x
 class-back-number aToJ = refl
 class-back-number otherSmall = refl
 class-back-number capital = refl
@@ -82,7 +82,19 @@ way-every f a inside = a .1 .1 .1 .1 .1 .1 .1 .1 .1 .0
 abbrev pub ways : Finite Way
 ways = record { members = way-list; at = λ f t. way-every f (all f way-list t) }
 
-pub way-back-number : (x : Way) → getD way-list (wayNumber x) bare ≡ x
+abbrev pub wayNumber : Way → ℕ
+wayNumber bare = 0
+wayNumber oneCapital = 1
+wayNumber allCapitals = 2
+wayNumber separated = 3
+wayNumber firstDigit = 4
+wayNumber firstLower = 5
+wayNumber lower = 6
+wayNumber denominator = 7
+wayNumber ordinalMark = 8
+wayNumber inside = 9
+
+way-back-number : (x : Way) → getD way-list (wayNumber x) bare ≡ x
 way-back-number bare = refl
 way-back-number oneCapital = refl
 way-back-number allCapitals = refl
@@ -99,6 +111,37 @@ way-same x y t =
     sym (way-back-number x)
     ∙ ap (λ (n : ℕ). getD way-list n bare) (eqb→eq (wayNumber x) (wayNumber y) t)
     ∙ way-back-number y
+
+-- Cause
+abbrev pub cause-list : List Cause
+cause-list = lacksSign ∷ breaksPair ∷ outsideForm ∷ sharesCells ∷ []
+
+pub cause-every : (f : Cause → Bool) → All f cause-list → (x : Cause) → T (f x)
+cause-every f a lacksSign = a .0
+cause-every f a breaksPair = a .1 .0
+cause-every f a outsideForm = a .1 .1 .0
+cause-every f a sharesCells = a .1 .1 .1 .0
+
+abbrev pub causes : Finite Cause
+causes = record { members = cause-list; at = λ f t. cause-every f (all f cause-list t) }
+
+abbrev pub causeNumber : Cause → ℕ
+causeNumber lacksSign = 0
+causeNumber breaksPair = 1
+causeNumber outsideForm = 2
+causeNumber sharesCells = 3
+
+cause-back-number : (x : Cause) → getD cause-list (causeNumber x) lacksSign ≡ x
+cause-back-number lacksSign = refl
+cause-back-number breaksPair = refl
+cause-back-number outsideForm = refl
+cause-back-number sharesCells = refl
+
+pub cause-same : (x y : Cause) → T (eqb (causeNumber x) (causeNumber y)) → x ≡ y
+cause-same x y t =
+    sym (cause-back-number x)
+    ∙ ap (λ (n : ℕ). getD cause-list n lacksSign) (eqb→eq (causeNumber x) (causeNumber y) t)
+    ∙ cause-back-number y
 
 -- Past
 abbrev pub past-list : List Past
@@ -126,7 +169,24 @@ past-every f a past-percent = a .1 .1 .1 .1 .1 .1 .1 .1 .1 .1 .1 .1 .1 .1 .0
 abbrev pub pasts : Finite Past
 pasts = record { members = past-list; at = λ f t. past-every f (all f past-list t) }
 
-pub past-back-number : (x : Past) → getD past-list (pastNumber x) free ≡ x
+abbrev pub pastNumber : Past → ℕ
+pastNumber free = 0
+pastNumber lone = 1
+pastNumber caps = 2
+pastNumber mixed = 3
+pastNumber plain-on = 4
+pastNumber past-on = 5
+pastNumber under-one = 6
+pastNumber under = 7
+pastNumber past-bar = 8
+pastNumber past-stop = 9
+pastNumber past-point = 10
+pastNumber past-dash = 11
+pastNumber past-hyphen = 12
+pastNumber past-feminine = 13
+pastNumber past-percent = 14
+
+past-back-number : (x : Past) → getD past-list (pastNumber x) free ≡ x
 past-back-number free = refl
 past-back-number lone = refl
 past-back-number caps = refl
@@ -166,7 +226,17 @@ future-every f a mark-on = a .1 .1 .1 .1 .1 .1 .1 .0
 abbrev pub futures : Finite Future
 futures = record { members = future-list; at = λ f t. future-every f (all f future-list t) }
 
-pub future-back-number : (x : Future) → getD future-list (futureNumber x) rest ≡ x
+abbrev pub futureNumber : Future → ℕ
+futureNumber rest = 0
+futureNumber caps-on = 1
+futureNumber mixed-on = 2
+futureNumber digits-on = 3
+futureNumber form-on = 4
+futureNumber bar-on = 5
+futureNumber stop-on = 6
+futureNumber mark-on = 7
+
+future-back-number : (x : Future) → getD future-list (futureNumber x) rest ≡ x
 future-back-number rest = refl
 future-back-number caps-on = refl
 future-back-number mixed-on = refl
@@ -209,7 +279,25 @@ mode-every f a Percent = a .1 .1 .1 .1 .1 .1 .1 .1 .1 .1 .1 .1 .1 .1 .1 .0
 abbrev pub modes : Finite Mode
 modes = record { members = mode-list; at = λ f t. mode-every f (all f mode-list t) }
 
-pub mode-back-number : (x : Mode) → getD mode-list (modeNumber x) Free ≡ x
+abbrev pub modeNumber : Mode → ℕ
+modeNumber Free = 0
+modeNumber Lone = 1
+modeNumber Owing = 2
+modeNumber Mixed = 3
+modeNumber Whole1 = 4
+modeNumber Whole2 = 5
+modeNumber Num = 6
+modeNumber Low = 7
+modeNumber Under1 = 8
+modeNumber Under = 9
+modeNumber Mid = 10
+modeNumber End = 11
+modeNumber Hyphen = 12
+modeNumber Dash = 13
+modeNumber Fem = 14
+modeNumber Percent = 15
+
+mode-back-number : (x : Mode) → getD mode-list (modeNumber x) Free ≡ x
 mode-back-number Free = refl
 mode-back-number Lone = refl
 mode-back-number Owing = refl
@@ -232,3 +320,31 @@ mode-same x y t =
     sym (mode-back-number x)
     ∙ ap (λ (n : ℕ). getD mode-list n Free) (eqb→eq (modeNumber x) (modeNumber y) t)
     ∙ mode-back-number y
+
+-- Kind
+abbrev pub kind-list : List Kind
+kind-list = a-digit ∷ a-hyphen ∷ a-lower-zero ∷ []
+
+pub kind-every : (f : Kind → Bool) → All f kind-list → (x : Kind) → T (f x)
+kind-every f a a-digit = a .0
+kind-every f a a-hyphen = a .1 .0
+kind-every f a a-lower-zero = a .1 .1 .0
+
+abbrev pub kinds : Finite Kind
+kinds = record { members = kind-list; at = λ f t. kind-every f (all f kind-list t) }
+
+abbrev pub kindNumber : Kind → ℕ
+kindNumber a-digit = 0
+kindNumber a-hyphen = 1
+kindNumber a-lower-zero = 2
+
+kind-back-number : (x : Kind) → getD kind-list (kindNumber x) a-digit ≡ x
+kind-back-number a-digit = refl
+kind-back-number a-hyphen = refl
+kind-back-number a-lower-zero = refl
+
+pub kind-same : (x y : Kind) → T (eqb (kindNumber x) (kindNumber y)) → x ≡ y
+kind-same x y t =
+    sym (kind-back-number x)
+    ∙ ap (λ (n : ℕ). getD kind-list n a-digit) (eqb→eq (kindNumber x) (kindNumber y) t)
+    ∙ kind-back-number y

@@ -1,7 +1,7 @@
 pub mod Finite
-pub mod Sides
-pub mod Modes
+pub mod States
 pub mod Enumerations
+pub mod Sides
 pub mod Machine
 pub mod Places
 pub mod Rows

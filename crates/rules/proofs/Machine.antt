@@ -8,16 +8,24 @@ use mathlib.Core.Option.{Option, none, some}
 use Prim.Native.Nat.{ℕ}
 use lib.Dec.{T, eqb, eqb→eq}
 use Rattle.rules.specs.Sorts.{Class, aToJ, otherSmall, capital, one, otherDigit, aStop, aComma, aHyphen, aDash, aBar, masculine, feminine, aPercent, otherSign, unlisted}
-use Rattle.rules.specs.Signs.{Way, bare, oneCapital, allCapitals, separated, firstDigit, firstLower, lower, denominator, ordinalMark, inside, wayNumber}
+use Rattle.rules.specs.Signs.{Way, bare, oneCapital, allCapitals, separated, firstDigit, firstLower, lower, denominator, ordinalMark, inside}
 use Rattle.rules.specs.Places.{Outcome, fault, silent, sign}
 use Rattle.rules.proofs.Finite.{and-both, implies, T-of-eqb, every, hold, holds, Hold, every3, at3, every4, at4}
-use Rattle.rules.proofs.Sides.{Past, free, lone, caps, mixed, plain-on, past-on, under-one, under, past-bar, past-stop, past-point, past-dash, past-hyphen, past-feminine, past-percent, Future, rest, caps-on, mixed-on, digits-on, form-on, bar-on, stop-on, mark-on, rule, look, after, _was_, _sees_, caps-next, mixed-next, digit-next, mark-next, form-next}
-use Rattle.rules.proofs.Modes.{Mode, Free, Lone, Owing, Mixed, Whole1, Whole2, Num, Low, Under1, Under, Mid, End, Hyphen, Dash, Fem, Percent, same-mode, mode-in}
-use Rattle.rules.proofs.Enumerations.{classes, ways, pasts, futures, modes}
+use Rattle.rules.proofs.Sides.{rule, look, after, _was_, _sees_, caps-next, mixed-next, digit-next, mark-next, form-next}
+use Rattle.rules.proofs.States.{Past, free, lone, caps, mixed, plain-on, past-on, under-one, under, past-bar, past-stop, past-point, past-dash, past-hyphen, past-feminine, past-percent, Future, rest, caps-on, mixed-on, digits-on, form-on, bar-on, stop-on, mark-on, Mode, Free, Lone, Owing, Mixed, Whole1, Whole2, Num, Low, Under1, Under, Mid, End, Hyphen, Dash, Fem, Percent}
+use Rattle.rules.proofs.Enumerations.{classes, ways, wayNumber, pasts, futures, modes, modeNumber}
 
 infix 40 _by_
 abbrev pub _by_ : Way → Way → Bool
 w by v = eqb (wayNumber w) (wayNumber v)
+
+unfoldable pub same-mode : Mode → Mode → Bool
+same-mode m n = eqb (modeNumber m) (modeNumber n)
+
+unfoldable pub mode-in : Mode → List Mode → Bool
+unfolding same-mode
+mode-in m [] = false
+mode-in m (n ∷ ns) = same-mode m n || mode-in m ns
 
 -- SETS OF MODES
 -- a run, a number or a form is whole here: a text may end

@@ -20,7 +20,8 @@ use Rattle.rules.specs.Rows.{sortIn, itemIn, itemsIn}
 use Rattle.rules.specs.Normal.{replacements, replacedBy, isDigitPoint, isOrdinalPoint, normalAfter, normalOf}
 use Rattle.rules.specs.Demands.{NormalTwice, NormalLength}
 use Rattle.rules.proofs.Finite.{le-or-lt, all, every, every2, at2, every3, at3, and-left, and-right, and-both, implies, holds, Hold, hold}
-use Rattle.rules.proofs.Sides.{Past, Future, in-digits, rule, after, future}
+use Rattle.rules.proofs.States.{Past, Future}
+use Rattle.rules.proofs.Sides.{in-digits, rule, after, future}
 use Rattle.rules.proofs.Enumerations.{classes, pasts, futures, class-same}
 use Rattle.rules.proofs.Pieces.{Passes, Good}
 

@@ -11,7 +11,7 @@ use native.Mathlib.Omega.{arith}
 use lib.Dec.{T, not-T, eqb, eqb→eq, ltb, ltb→lt}
 use Rattle.rules.specs.Cells.{Text}
 use Rattle.rules.specs.Sorts.{Sort, Item, Table, noSign}
-use Rattle.rules.specs.Pairs.{kinds, Opens, markOf, markTurns, turn, openAfter, closedBelow, closed}
+use Rattle.rules.specs.Pairs.{kinds, Opens, leavesOpen, markOf, markTurns, turn, openAfter, closedBelow, closed}
 use Rattle.rules.specs.Rows.{sortIn, itemIn, itemsIn}
 use Rattle.rules.specs.Demands.{ClosedMeansAll}
 use Rattle.rules.proofs.Finite.{le-or-lt, every, and-left, and-right}
@@ -38,7 +38,7 @@ other-kind : (m : Option (ℕ × Bool)) (o : Opens) (k : ℕ) → T (known-kind 
 other-kind none o k t l e = e
 other-kind (some m) o k t l e = go (eqb k (m .0)) refl
   where
-    go : (b : Bool) → eqb k (m .0) ≡ b → cond b (m .1) (o k) ≡ false
+    go : (b : Bool) → eqb k (m .0) ≡ b → cond b (leavesOpen (m .1) (o k)) (o k) ≡ false
     go true q =
         let z : k ≡ m .0 = eqb→eq k (m .0) (subst T (sym q) tt) in
         let u : m .0 < kinds = ltb→lt (m .0) kinds t in

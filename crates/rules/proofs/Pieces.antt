@@ -16,10 +16,10 @@ use Rattle.rules.specs.Pairs.{Opens, markOf, turn, fits, closed, openAft
 use Rattle.rules.specs.Places.{classAt, breaksPair, Outcome, fault, silent, sign}
 use Rattle.rules.specs.Rows.{Verdict, good, bad, judge, signOnward, signsFrom}
 use Rattle.rules.proofs.Finite.{and-left, and-right, beq-same, Hold, every3, at3}
-use Rattle.rules.proofs.Sides.{Past, free, Future, rest, rule, look, after, future, outcome-cells, row-on, verdict-on}
-use Rattle.rules.proofs.Modes.{Mode, same-mode}
+use Rattle.rules.proofs.States.{Past, Future, Mode}
+use Rattle.rules.proofs.Sides.{rule, look, after, future, outcome-cells, row-on, verdict-on}
 use Rattle.rules.proofs.Enumerations.{classes, pasts, futures, way-same, mode-same}
-use Rattle.rules.proofs.Machine.{step, mode-at, at-rest, ahead, see, waiting, lead-of, lead-class, ready, onward-by, onward-at, view-at, end-at, back-at, rest-at, back-by, lands, lands-two, is-sign, is-silent, is-some}
+use Rattle.rules.proofs.Machine.{same-mode, step, mode-at, at-rest, ahead, see, waiting, lead-of, lead-class, ready, onward-by, onward-at, view-at, end-at, back-at, rest-at, back-by, lands, lands-two, is-sign, is-silent, is-some}
 use Rattle.rules.proofs.Places.{past, past-of, outcome-at}
 use Rattle.rules.proofs.Rows.{not-both}
 

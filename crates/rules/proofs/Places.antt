@@ -7,7 +7,6 @@ use mathlib.Core.Option.{Option, none, some}
 use mathlib.Core.List.{List, [], _∷_}
 use Prim.Native.Nat.{ℕ}
 use lib.Dec.{T, eqb, eqb→eq}
-use lib.ListN.{getD}
 use Rattle.rules.specs.Sorts.{Sort, letter, digit, fullStop, comma, hyphen, dash, fractionBar, ordinal, pairMark, percent, plain, noSign, Item, class, Class, aToJ, otherSmall, capital, one, otherDigit, aStop, aComma, aHyphen, aDash, aBar, masculine, feminine, aPercent, otherSign, unlisted, _is_, isLetter, isDigit, isStop, isPoint, isOrdinal}
 use Rattle.rules.specs.Signs.{Way}
 use Rattle.rules.specs.Near.{Side, next, Near}
@@ -18,8 +17,9 @@ use Rattle.rules.specs.Pairs.{Opens, markOf, markFits, fits, openAfter}
 use Rattle.rules.specs.Places.{Place, Faulty, without-sign, against-pair-rule, out-of-form, sharing-cells, classAt, sideOf, near, nearOf, classOf, Cause, written, lacksSign, breaksPair, outsideForm, sharesCells, hasNoSign, isOutsideForm, wouldShareCells, Outcome, fault, silent, sign, outcome}
 use Rattle.rules.specs.Rows.{at, outcomeAt, fitsAt}
 use Rattle.rules.proofs.Finite.{nothing, every2, at2, every3, at3, beq-same, Hold, hold, holds}
-use Rattle.rules.proofs.Sides.{Past, free, plain-on, past-on, past-bar, past-stop, past-dash, past-hyphen, past-feminine, Future, rest, _was_, in-run, in-mixed, in-denominator, in-digits, at-point, caps-next, mixed-next, digit-next, mark-next, form-next, rule, look, after, future}
-use Rattle.rules.proofs.Enumerations.{classes, pasts, futures, way-same}
+use Rattle.rules.proofs.States.{Past, free, past-on, past-bar, past-stop, past-dash, past-hyphen, past-feminine, Future, rest}
+use Rattle.rules.proofs.Sides.{_was_, in-run, in-mixed, in-denominator, in-digits, at-point, caps-next, mixed-next, digit-next, mark-next, form-next, rule, look, after, future}
+use Rattle.rules.proofs.Enumerations.{classes, pasts, futures, way-same, causeNumber, cause-same}
 use Rattle.rules.proofs.Machine.{_by_}
 
 -- the past of the side before, the future of the side after
@@ -170,27 +170,9 @@ near-is b a i =
       capitalsAfter = capitals-on a i;
     }
 
--- causes and outcomes, compared by a test
-abbrev cause-number : Cause → ℕ
-cause-number lacksSign = 0
-cause-number breaksPair = 1
-cause-number outsideForm = 2
-cause-number sharesCells = 3
-
-abbrev cause-back : ℕ → Cause
-cause-back n = getD (lacksSign ∷ breaksPair ∷ outsideForm ∷ sharesCells ∷ []) n lacksSign
-
-cause-back-number : (c : Cause) → cause-back (cause-number c) ≡ c
-cause-back-number lacksSign = refl
-cause-back-number breaksPair = refl
-cause-back-number outsideForm = refl
-cause-back-number sharesCells = refl
-
-cause-same : (c d : Cause) → T (eqb (cause-number c) (cause-number d)) → c ≡ d
-cause-same c d t = sym (cause-back-number c) ∙ ap cause-back (eqb→eq (cause-number c) (cause-number d) t) ∙ cause-back-number d
-
+-- outcomes, compared by a test
 same-outcome : Outcome → Outcome → Bool
-same-outcome (fault c) (fault d) = eqb (cause-number c) (cause-number d)
+same-outcome (fault c) (fault d) = eqb (causeNumber c) (causeNumber d)
 same-outcome (fault c) silent = false
 same-outcome (fault c) (sign v) = false
 same-outcome silent (fault d) = false

@@ -18,8 +18,8 @@ use Rattle.rules.specs.Rows.{sortIn, itemIn, itemsIn, Reads, Verdict, go
 use Rattle.rules.specs.Normal.{normalOf}
 use Rattle.rules.specs.Demands.{OneText, AcceptedIsNormal}
 use Rattle.rules.proofs.Finite.{nothing, every, every3, at3, and-left, and-right}
-use Rattle.rules.proofs.Sides.{Past, free, rule, after, future}
-use Rattle.rules.proofs.Modes.{Mode, Free}
+use Rattle.rules.proofs.States.{Past, free, Mode, Free}
+use Rattle.rules.proofs.Sides.{row-on, rule, after, future}
 use Rattle.rules.proofs.Enumerations.{classes, ways, modes, way-same}
 use Rattle.rules.proofs.Machine.{_by_, step, at-rest, mode-at, waiting, lead-of, ready}
 use Rattle.rules.proofs.Places.{past}
@@ -284,7 +284,7 @@ module _ (tb : Table) (sane : Sane tb) where
           let v : verdictOf tb t ≡ good =
           ap (verdictFrom [] 0) z ∙ verdict-is [] 0 (items (sane .shares) ss) ∙ verdict-of-good free shut 0 (items (sane .shares) ss) (b .0) in
           let w : whole-row tb t ≡ r =
-          ap (Rattle.rules.proofs.Sides.row-on free) z ∙ row-words free (items (sane .shares) ss) ∙ ap words (b .1) ∙ h .2 zero-le in
+          ap (row-on free) z ∙ row-words free (items (sane .shares) ss) ∙ ap words (b .1) ∙ h .2 zero-le in
           good-reads tb t v ∙ ap some w
 
   -- every row has a text, or none of any length

@@ -16,18 +16,15 @@ use lib.Seq.{drop-append-seam, drop-nil}
 use Rattle.rules.specs.Cells.{Row, dots}
 use Rattle.rules.specs.Sorts.{Item, Class, aToJ, otherSmall, capital, one, otherDigit, aStop, aComma, aHyphen, aDash, aBar, masculine, feminine, aPercent, otherSign, unlisted, isDigitCell}
 use Rattle.rules.specs.Signs.{Way, bare, oneCapital, allCapitals, separated, firstDigit, firstLower, lower, denominator, ordinalMark, inside}
-use Rattle.rules.specs.Pairs.{Opens, markOf, markFits, turn, fits, closed}
+use Rattle.rules.specs.Pairs.{Opens, mayStand, markOf, markFits, turn, fits, closed}
 use Rattle.rules.specs.Places.{classAt}
 use Rattle.rules.proofs.Finite.{nothing, every, and-left, and-right, and-both, implies}
-use Rattle.rules.proofs.Modes.{Mode, Free, Lone, Owing, Mixed, Whole1, Whole2, Num, Low, Under1, Under, Mid, End, Hyphen, Dash, Fem, Percent}
-use Rattle.rules.proofs.Enumerations.{modes}
+use Rattle.rules.proofs.States.{Mode, Free, Lone, Owing, Mixed, Whole1, Whole2, Num, Low, Under1, Under, Mid, End, Hyphen, Dash, Fem, Percent, Kind, a-digit, a-hyphen, a-lower-zero}
+use Rattle.rules.proofs.Enumerations.{modes, kindNumber, kind-same}
 use Rattle.rules.proofs.Machine.{step, at-rest}
 use Rattle.rules.proofs.Pieces.{Piece, word, words, Runs}
 
 -- FORESIGHT: what a row begins with, wanted or shunned, by its next two cells
-pub data Kind : Type 0 where
-  a-digit a-hyphen a-lower-zero : Kind
-
 pub data Look : Type 0 where
   any : Look
   wants shuns : Kind → Look
@@ -189,29 +186,13 @@ all-pieces [] = []
 all-pieces (i ∷ is) = map (λ w. (w, i)) (ways-of (classAt i)) ++ all-pieces is
 
 -- TEST A: two pieces of the list never both fit
-abbrev kind-number : Kind → ℕ
-kind-number a-digit = 0
-kind-number a-hyphen = 1
-kind-number a-lower-zero = 2
-
-abbrev kind-back : ℕ → Kind
-kind-back n = getD (a-digit ∷ a-hyphen ∷ a-lower-zero ∷ []) n a-digit
-
-kind-back-number : (k : Kind) → kind-back (kind-number k) ≡ k
-kind-back-number a-digit = refl
-kind-back-number a-hyphen = refl
-kind-back-number a-lower-zero = refl
-
-kind-same : (j k : Kind) → T (eqb (kind-number j) (kind-number k)) → j ≡ k
-kind-same j k t = sym (kind-back-number j) ∙ ap kind-back (eqb→eq (kind-number j) (kind-number k) t) ∙ kind-back-number k
-
 unfoldable pub contrary : Look → Look → Bool
 contrary any l = false
 contrary (wants j) any = false
 contrary (wants j) (wants k) = false
-contrary (wants j) (shuns k) = eqb (kind-number j) (kind-number k)
+contrary (wants j) (shuns k) = eqb (kindNumber j) (kindNumber k)
 contrary (shuns j) any = false
-contrary (shuns j) (wants k) = eqb (kind-number j) (kind-number k)
+contrary (shuns j) (wants k) = eqb (kindNumber j) (kindNumber k)
 contrary (shuns j) (shuns k) = false
 
 -- opener and closer of one kind
@@ -319,7 +300,7 @@ some-hit w r n t = go (match w r (look-of n)) t
 not-both : (b : Bool) → T b → T (not b) → ⊥
 not-both b t u = T-not b u t
 
-rivals-differ : (x y o : Bool) → T (x && not y || not x && y) → T (cond x (not o) o) → T (cond y (not o) o) → ⊥
+rivals-differ : (x y o : Bool) → T (x && not y || not x && y) → T (mayStand x o) → T (mayStand y o) → ⊥
 rivals-differ true true o t f g = t
 rivals-differ true false o t f g = T-not o f g
 rivals-differ false true o t f g = T-not o g f
@@ -331,7 +312,7 @@ rivals-apart o none b t f g = t
 rivals-apart o (some a) none t f g = t
 rivals-apart o (some a) (some b) t f g =
     rivals-differ (a .1) (b .1) (o (a .0)) (and-right (eqb (a .0) (b .0)) (a .1 && not (b .1) || not (a .1) && b .1) t) f
-    (subst (λ (k : ℕ). T (cond (b .1) (not (o k)) (o k)))
+    (subst (λ (k : ℕ). T (mayStand (b .1) (o k)))
     (sym (eqb→eq (a .0) (b .0) (and-left (eqb (a .0) (b .0)) (a .1 && not (b .1) || not (a .1) && b .1) t))) g)
 
 contrary-two : (k l : Look) (x y : ℕ) → T (contrary k l) → T (sees-two k x y) → T (sees-two l x y) → ⊥

@@ -19,7 +19,8 @@ use Rattle.rules.specs.Places.{Place, placeFrom, classAt, Cause, breaksP
 use Rattle.rules.specs.Rows.{itemIn, itemsIn, at, outcomeAt, fitsAt, withCells, rowOnward, rowFrom, rowOf, Reads, Accepted, FaultyPlace, Fault, FirstFault, Faultless, LeftOpen, Verdict, good, bad, judge, verdictFrom, verdictOf}
 use Rattle.rules.specs.Demands.{OneFaultEach, VerdictMeans, VerdictIsLeast, RowExactly}
 use Rattle.rules.proofs.Finite.{nothing}
-use Rattle.rules.proofs.Sides.{Past, free, Future, rule, after, future, outcome-cells, row-on, verdict-on}
+use Rattle.rules.proofs.States.{Past, free}
+use Rattle.rules.proofs.Sides.{rule, after, future, outcome-cells, row-on, verdict-on}
 use Rattle.rules.proofs.Places.{past, past-of, outcome-at, found, faulty-found, found-faulty}
 
 -- no verdict is both

@@ -11,33 +11,8 @@ use Rattle.rules.specs.Signs.{Way, bare, oneCapital, allCapitals, separa
 use Rattle.rules.specs.Pairs.{Opens, fits, turn, closed}
 use Rattle.rules.specs.Places.{classAt, lacksSign, breaksPair, outsideForm, sharesCells, Outcome, fault, silent, sign}
 use Rattle.rules.specs.Rows.{Verdict, good, bad, judge}
-
-pub data Past : Type 0 where
-  -- nothing that a rule asks for
-  free : Past
-  -- a run: one capital; two or more, all capitals; with a small letter
-  lone caps mixed : Past
-  -- digits: plain; past a point or comma; a denominator that is 1 so far; any other denominator
-  plain-on past-on under-one under : Past
-  -- directly before: U+2044; a full stop after plain digits; another point or comma of a number; U+2014; a hyphen; ª; %
-  past-bar past-stop past-point past-dash past-hyphen past-feminine past-percent : Past
-
-abbrev pub pastNumber : Past → ℕ
-pastNumber free = 0
-pastNumber lone = 1
-pastNumber caps = 2
-pastNumber mixed = 3
-pastNumber plain-on = 4
-pastNumber past-on = 5
-pastNumber under-one = 6
-pastNumber under = 7
-pastNumber past-bar = 8
-pastNumber past-stop = 9
-pastNumber past-point = 10
-pastNumber past-dash = 11
-pastNumber past-hyphen = 12
-pastNumber past-feminine = 13
-pastNumber past-percent = 14
+use Rattle.rules.proofs.States.{Past, free, lone, caps, mixed, plain-on, past-on, under-one, under, past-bar, past-stop, past-point, past-dash, past-hyphen, past-feminine, past-percent, Future, rest, caps-on, mixed-on, digits-on, form-on, bar-on, stop-on, mark-on}
+use Rattle.rules.proofs.Enumerations.{pastNumber, futureNumber}
 
 infix 40 _was_
 abbrev pub _was_ : Past → Past → Bool
@@ -63,20 +38,6 @@ in-digits p = in-number p || in-denominator p
 -- directly after a point or comma of a number
 abbrev pub at-point : Past → Bool
 at-point p = p was past-stop || p was past-point
-
--- a run of capitals; one with a small letter; digits; digits of a form; U+2044 and a digit; a full stop and º or ª; º or ª
-pub data Future : Type 0 where
-  rest caps-on mixed-on digits-on form-on bar-on stop-on mark-on : Future
-
-abbrev pub futureNumber : Future → ℕ
-futureNumber rest = 0
-futureNumber caps-on = 1
-futureNumber mixed-on = 2
-futureNumber digits-on = 3
-futureNumber form-on = 4
-futureNumber bar-on = 5
-futureNumber stop-on = 6
-futureNumber mark-on = 7
 
 infix 40 _sees_
 abbrev pub _sees_ : Future → Future → Bool

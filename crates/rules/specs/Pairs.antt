@@ -30,15 +30,22 @@ markOf (percent w) = none
 markOf (plain w) = none
 markOf noSign = none
 
--- "An opener stands only where its kind is closed, a closer only where it is open"
+-- "An opener stands only where its kind is closed, a closer only where it is open": from whether it is the opener and whether its kind is open
+abbrev pub mayStand : Bool → Bool → Bool
+mayStand opener isOpen = cond opener (not isOpen) isOpen
+
+-- an opener leaves its kind open, a closer closed, whatever it was
+abbrev pub leavesOpen : Bool → Bool → Bool
+leavesOpen opener wasOpen = opener
+
 abbrev pub markFits : Opens → Option (ℕ × Bool) → Bool
 markFits o none = true
-markFits o (some m) = cond (m .1) (not (o (m .0))) (o (m .0))
+markFits o (some m) = mayStand (m .1) (o (m .0))
 
--- an opener opens its kind, a closer closes it, and no other: "Kinds may cross."
+-- a mark turns its own kind and no other: "Kinds may cross."
 abbrev pub markTurns : Option (ℕ × Bool) → Opens → Opens
 markTurns none o = o
-markTurns (some m) o = λ k. cond (eqb k (m .0)) (m .1) (o k)
+markTurns (some m) o = λ k. cond (eqb k (m .0)) (leavesOpen (m .1) (o k)) (o k)
 
 unfoldable pub fits : Opens → Sort → Bool
 unfolding markOf

@@ -18,18 +18,6 @@ pub data Way : Type 0 where
   -- the first digit of a denominator; º or ª of an ordinal; a point or comma inside a number
   denominator ordinalMark inside : Way
 
-abbrev pub wayNumber : Way → ℕ
-wayNumber bare = 0
-wayNumber oneCapital = 1
-wayNumber allCapitals = 2
-wayNumber separated = 3
-wayNumber firstDigit = 4
-wayNumber firstLower = 5
-wayNumber lower = 6
-wayNumber denominator = 7
-wayNumber ordinalMark = 8
-wayNumber inside = 9
-
 -- "Lower digits 1 to 9 and 0 are 2, 23, 25, 256, 26, 235, 2356, 236, 35, 356."
 abbrev pub lowerDots : List ℕ
 lowerDots = 2 ∷ 23 ∷ 25 ∷ 256 ∷ 26 ∷ 235 ∷ 2356 ∷ 236 ∷ 35 ∷ 356 ∷ []
