@@ -2,14 +2,14 @@
 -- function gives is allowed, and what is allowed is what it gives. The first needs nothing of the table, the others that it is sane.
 -- Assumes nothing.
 use mathlib.Core.Path.{_≡_, refl, sym, _∙_, ap, subst}
-use mathlib.Core.Logic.{_↔_, _⊎_, inl, inr, ⊎-elim}
-use mathlib.Core.Bool.{Bool, true, false, not, cond}
-use mathlib.Core.List.{List, [], _∷_}
+use mathlib.Core.Logic.{_⊎_, inl, inr, ⊎-elim}
+use mathlib.Core.Bool.{Bool, true, false, cond}
+use mathlib.Core.List.{[], _∷_}
 use mathlib.Core.Option.{Option, none, some}
-use Prim.Native.Nat.{ℕ, zero, suc, _+_, _*_, _≤_, _<_}
+use Prim.Native.Nat.{ℕ, zero, suc, _*_, _≤_, _<_}
 use native.Mathlib.Nat.{le-of-suc-le-suc, not-suc-le-zero}
 use native.Mathlib.Omega.{arith}
-use lib.Dec.{T, leb, leb→le, le→leb, nleb→lt}
+use lib.Dec.{T, leb, leb→le, le→leb}
 use lib.ListN.{length, getD}
 use Rattle.rules.specs.Cells.{Text, Row, lastCell}
 use Rattle.rules.specs.Sorts.{Table}
@@ -21,7 +21,7 @@ use Rattle.rules.specs.Answers.{Answer, gives, refuses, PrintRefused, to
 use Rattle.rules.specs.Demands.{EveryPrintAnswered, EveryRowAnswered, EveryStepAnswered, OnePrintAnswer, OneRowAnswer, OneStepAnswer, RefusedExactly, ReadsBack, NoTextExactly, VerdictMeans}
 use Rattle.rules.proofs.Finite.{nothing, le-or-lt}
 use Rattle.rules.proofs.Rows.{whole-row, reads-good, good-reads, verdict-is-least, row-exactly, one-fault-each}
-use Rattle.rules.proofs.Profile.{Sane, one-text, text-or-none, decode, reads-back, reads-right}
+use Rattle.rules.proofs.Profile.{Sane, decode, reads-back, reads-right}
 use Rattle.rules.proofs.Signs.{cells-of-text, three-cells-each}
 
 -- a test on numbers, by the order

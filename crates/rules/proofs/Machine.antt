@@ -12,7 +12,7 @@ use Rattle.rules.specs.Signs.{Way, bare, oneCapital, allCapitals, separa
 use Rattle.rules.specs.Places.{Outcome, fault, silent, sign}
 use Rattle.rules.proofs.Finite.{and-both, implies, T-of-eqb, every, hold, holds, Hold, every3, at3, every4, at4}
 use Rattle.rules.proofs.Sides.{rule, look, after, _was_, _sees_, caps-next, mixed-next, digit-next, mark-next, form-next}
-use Rattle.rules.proofs.States.{Past, free, lone, caps, mixed, plain-on, past-on, under-one, under, past-bar, past-stop, past-point, past-dash, past-hyphen, past-feminine, past-percent, Future, rest, caps-on, mixed-on, digits-on, form-on, bar-on, stop-on, mark-on, Mode, Free, Lone, Owing, Mixed, Whole1, Whole2, Num, Low, Under1, Under, Mid, End, Hyphen, Dash, Fem, Percent}
+use Rattle.rules.proofs.States.{Past, free, lone, caps, mixed, plain-on, past-on, under-one, under, past-bar, past-stop, past-point, past-dash, past-hyphen, past-feminine, past-percent, Future, rest, digits-on, form-on, bar-on, stop-on, mark-on, Mode, Free, Lone, Owing, Mixed, Whole1, Whole2, Num, Low, Under1, Under, Mid, End, Hyphen, Dash, Fem, Percent}
 use Rattle.rules.proofs.Enumerations.{classes, ways, wayNumber, pasts, futures, modes, modeNumber}
 
 infix 40 _by_

@@ -1,16 +1,16 @@
 -- Pairs: the kinds that are counted are all there are. A table's test says that each mark is of a kind below `kinds`; so no other kind is ever
 -- opened, and `closed`, which counts those, speaks of all. Assumes nothing.
 use mathlib.Core.Path.{_≡_, refl, sym, _∙_, ap, subst}
-use mathlib.Core.Logic.{_⊎_, inl, inr, ⊎-elim}
-use mathlib.Core.Bool.{Bool, true, false, _&&_, not, cond}
+use mathlib.Core.Logic.{⊎-elim}
+use mathlib.Core.Bool.{Bool, true, false, not, cond}
 use mathlib.Core.List.{List, [], _∷_, reverseAux}
 use mathlib.Core.Option.{Option, none, some}
 use Prim.Native.Nat.{ℕ, zero, suc, _≤_, _<_}
 use native.Mathlib.Nat.{not-suc-le-zero}
 use native.Mathlib.Omega.{arith}
-use lib.Dec.{T, not-T, eqb, eqb→eq, ltb, ltb→lt}
+use lib.Dec.{T, eqb, eqb→eq, ltb, ltb→lt}
 use Rattle.rules.specs.Cells.{Text}
-use Rattle.rules.specs.Sorts.{Sort, Item, Table, noSign}
+use Rattle.rules.specs.Sorts.{Sort, Item, Table}
 use Rattle.rules.specs.Pairs.{kinds, Opens, leavesOpen, markOf, markTurns, turn, openAfter, closedBelow, closed}
 use Rattle.rules.specs.Rows.{sortIn, itemIn, itemsIn}
 use Rattle.rules.specs.Demands.{ClosedMeansAll}

@@ -10,9 +10,9 @@ use Prim.Native.Nat.{ℕ}
 use native.Mathlib.Omega.{arith}
 use lib.Dec.{T, eqb, eqb→eq}
 use Rattle.rules.specs.Cells.{Text, Row}
-use Rattle.rules.specs.Sorts.{Sort, letter, digit, fullStop, comma, hyphen, dash, fractionBar, ordinal, pairMark, percent, plain, noSign, Item, Class, aToJ, otherSmall, capital, one, otherDigit, aStop, aComma, aHyphen, aDash, aBar, masculine, feminine, aPercent, otherSign, unlisted, class, isDigitCell}
+use Rattle.rules.specs.Sorts.{Sort, letter, digit, fullStop, comma, hyphen, dash, fractionBar, ordinal, pairMark, percent, plain, noSign, Item, Class, aToJ, otherSmall, capital, one, otherDigit, aComma, aHyphen, aDash, masculine, feminine, aPercent, otherSign, unlisted, class, isDigitCell}
 use Rattle.rules.specs.Signs.{Way, bare, oneCapital, allCapitals, separated, firstDigit, firstLower, lower, denominator, ordinalMark, inside, signCells, Sign}
-use Rattle.rules.specs.Pairs.{Opens, markOf, turn, fits, closed, openAfter}
+use Rattle.rules.specs.Pairs.{Opens, markOf, turn, fits, closed}
 use Rattle.rules.specs.Places.{classAt, breaksPair, Outcome, fault, silent, sign}
 use Rattle.rules.specs.Rows.{Verdict, good, bad, judge, signOnward, signsFrom}
 use Rattle.rules.proofs.Finite.{and-left, and-right, beq-same, Hold, every3, at3}

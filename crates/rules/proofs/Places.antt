@@ -5,10 +5,8 @@ use mathlib.Core.Path.{_≡_, refl, sym, _∙_, ap, subst}
 use mathlib.Core.Bool.{Bool, true, false, _&&_, _||_, not, cond, Bool·beq, true≢false}
 use mathlib.Core.Option.{Option, none, some}
 use mathlib.Core.List.{List, [], _∷_}
-use Prim.Native.Nat.{ℕ}
-use lib.Dec.{T, eqb, eqb→eq}
+use lib.Dec.{T, eqb}
 use Rattle.rules.specs.Sorts.{Sort, letter, digit, fullStop, comma, hyphen, dash, fractionBar, ordinal, pairMark, percent, plain, noSign, Item, class, Class, aToJ, otherSmall, capital, one, otherDigit, aStop, aComma, aHyphen, aDash, aBar, masculine, feminine, aPercent, otherSign, unlisted, _is_, isLetter, isDigit, isStop, isPoint, isOrdinal}
-use Rattle.rules.specs.Signs.{Way}
 use Rattle.rules.specs.Near.{Side, next, Near}
 use Rattle.rules.specs.Capitals.{runGoesOn, onlyCapitals}
 use Rattle.rules.specs.Numbers.{underBar, numberPoint, numberGoesOn, pointWay}

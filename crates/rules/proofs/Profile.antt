@@ -11,10 +11,10 @@ use lib.Dec.{T, eqb, eqb→eq, eqb-refl, leb}
 use lib.ListN.{length}
 use Rattle.rules.specs.Cells.{Text, Row, lastCell}
 use Rattle.rules.specs.Sorts.{Sort, noSign, fullStop, fractionBar, Item, Table, Class, class}
-use Rattle.rules.specs.Signs.{Way, Sign}
+use Rattle.rules.specs.Signs.{Way}
 use Rattle.rules.specs.Pairs.{Opens, turn, openAfter}
 use Rattle.rules.specs.Places.{classAt, Outcome, fault, silent, sign}
-use Rattle.rules.specs.Rows.{sortIn, itemIn, itemsIn, Reads, Verdict, good, verdictOf, verdictFrom, signsOf}
+use Rattle.rules.specs.Rows.{sortIn, itemIn, itemsIn, Reads, good, verdictOf, verdictFrom, signsOf}
 use Rattle.rules.specs.Normal.{normalOf}
 use Rattle.rules.specs.Demands.{OneText, AcceptedIsNormal}
 use Rattle.rules.proofs.Finite.{nothing, every, every3, at3, and-left, and-right}

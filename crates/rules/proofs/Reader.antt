@@ -11,7 +11,7 @@ use Prim.Native.Nat.{ℕ, zero, suc, _≤_}
 use native.Mathlib.Nat.{le-of-suc-le-suc}
 use native.Mathlib.Omega.{arith}
 use lib.Dec.{T, T-not, eqb, eqb→eq, eqb-refl}
-use lib.ListN.{length, drop, length-append, getD}
+use lib.ListN.{length, drop, length-append}
 use lib.Seq.{drop-append-seam, drop-nil}
 use Rattle.rules.specs.Cells.{Row, dots}
 use Rattle.rules.specs.Sorts.{Item, Class, aToJ, otherSmall, capital, one, otherDigit, aStop, aComma, aHyphen, aDash, aBar, masculine, feminine, aPercent, otherSign, unlisted, isDigitCell}

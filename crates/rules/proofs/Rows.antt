@@ -2,25 +2,24 @@
 -- (`row-when-good`). The verdict from a place on is the first fault from there, or the text's end (`verdict-first`): at each place either
 -- a fault is found, or the rest decides. Assumes nothing.
 use mathlib.Core.Path.{_≡_, refl, sym, _∙_, ap, subst}
-use mathlib.Core.Logic.{_↔_, _⊎_, inl, inr, ⊎-elim}
+use mathlib.Core.Logic.{_⊎_, inl, inr, ⊎-elim}
 use mathlib.Core.Bool.{Bool, true, false, not, cond}
-use mathlib.Core.List.{List, [], _∷_, _++_, map, reverseAux}
+use mathlib.Core.List.{List, [], _∷_, _++_, reverseAux}
 use mathlib.Core.Option.{Option, none, some}
-use Prim.Native.Nat.{ℕ, zero, suc, _+_, _≤_, _<_}
+use Prim.Native.Nat.{ℕ, zero, suc, _+_, _<_}
 use native.Mathlib.Nat.{le-of-suc-le-suc, not-suc-le-zero}
 use native.Mathlib.Omega.{arith}
 use lib.Dec.{T, T-not}
 use lib.ListN.{length, length-map}
 use Rattle.rules.specs.Cells.{Text, Row}
 use Rattle.rules.specs.Sorts.{Sort, Item, Table}
-use Rattle.rules.specs.Signs.{signCells}
-use Rattle.rules.specs.Pairs.{Opens, fits, turn, openAfter, closed}
-use Rattle.rules.specs.Places.{Place, placeFrom, classAt, Cause, breaksPair, Faulty, Outcome, fault, silent, sign}
-use Rattle.rules.specs.Rows.{itemIn, itemsIn, at, outcomeAt, fitsAt, withCells, rowOnward, rowFrom, rowOf, Reads, Accepted, FaultyPlace, Fault, FirstFault, Faultless, LeftOpen, Verdict, good, bad, judge, verdictFrom, verdictOf}
+use Rattle.rules.specs.Pairs.{openAfter, closed}
+use Rattle.rules.specs.Places.{Place, placeFrom, Cause, breaksPair, Outcome, fault, silent, sign}
+use Rattle.rules.specs.Rows.{itemIn, itemsIn, at, outcomeAt, fitsAt, rowOnward, rowFrom, rowOf, Reads, Accepted, FaultyPlace, FirstFault, Faultless, LeftOpen, Verdict, good, bad, judge, verdictFrom, verdictOf}
 use Rattle.rules.specs.Demands.{OneFaultEach, VerdictMeans, VerdictIsLeast, RowExactly}
 use Rattle.rules.proofs.Finite.{nothing}
-use Rattle.rules.proofs.States.{Past, free}
-use Rattle.rules.proofs.Sides.{rule, after, future, outcome-cells, row-on, verdict-on}
+use Rattle.rules.proofs.States.{free}
+use Rattle.rules.proofs.Sides.{outcome-cells, row-on, verdict-on}
 use Rattle.rules.proofs.Places.{past, past-of, outcome-at, found, faulty-found, found-faulty}
 
 -- no verdict is both

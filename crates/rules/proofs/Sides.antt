@@ -1,7 +1,7 @@
 -- What the rules see of the two sides of a place, as two finite types: `Past` for what stands before it, `Future` for what stands after.
 -- `after` and `look` carry them over one more code point, and `rule` says from them what `outcome` says from the sides (proofs/Places.antt
 -- shows it). Sets of states have names: a new state is a line in each set. Assumes nothing.
-use mathlib.Core.Bool.{Bool, true, false, _&&_, _||_, not, cond}
+use mathlib.Core.Bool.{Bool, _&&_, _||_, not, cond}
 use mathlib.Core.List.{List, [], _∷_, _++_}
 use Prim.Native.Nat.{ℕ, suc}
 use lib.Dec.{eqb}

@@ -2,22 +2,22 @@
 -- text's pieces, which `Profile.of-text` gives; the table's test of words bounds each. Assumes nothing.
 use mathlib.Core.Path.{_≡_, refl, sym, _∙_, ap, subst}
 use mathlib.Core.Logic.{_⊎_, inl, inr}
-use mathlib.Core.Bool.{Bool, true, false, _&&_, cond}
+use mathlib.Core.Bool.{Bool, true, false, cond}
 use mathlib.Core.List.{List, [], _∷_, _++_, map}
-use Prim.Native.Nat.{ℕ, zero, suc, _+_, _*_, _≤_, _<_}
+use Prim.Native.Nat.{ℕ, zero, suc, _*_, _≤_, _<_}
 use native.Mathlib.Nat.{le-of-suc-le-suc, not-suc-le-zero}
 use native.Mathlib.Omega.{arith}
-use lib.Dec.{T, eqb, leb, leb→le}
+use lib.Dec.{T, leb, leb→le}
 use lib.ListN.{length, length-append, length-map, getD}
 use Rattle.rules.specs.Cells.{Text, Row, lastCell}
-use Rattle.rules.specs.Sorts.{Item, Table, fractionBar, fullStop}
+use Rattle.rules.specs.Sorts.{Item, Table}
 use Rattle.rules.specs.Signs.{Way, denominator, ordinalMark, Sign, printOf, cellsOf}
 use Rattle.rules.specs.Rows.{Reads, signsOf}
 use Rattle.rules.specs.Demands.{ThreeCellsEach, CellForEachSign, OneOrTwoPoints, SignsJoin}
 use Rattle.rules.proofs.Finite.{every, and-left, and-right, and-both}
 use Rattle.rules.proofs.Machine.{_by_, lead-of}
 use Rattle.rules.proofs.Pieces.{Piece, word, words, due, lead, items, wait-text, sign-of}
-use Rattle.rules.proofs.Reader.{every-in, all-pieces, all-begin, all-begin-in, begins, AllIn}
+use Rattle.rules.proofs.Reader.{every-in, all-pieces, all-begin-in, begins, AllIn}
 use Rattle.rules.proofs.Profile.{Sane, proper-word, print-of, OfText, of-text, pieces-of}
 
 -- a code point that waits, as print

@@ -13,11 +13,12 @@ pub data Past : Type 0 where
   -- directly before: U+2044; a full stop after plain digits; another point or comma of a number; U+2014; a hyphen; ª; %
   past-bar past-stop past-point past-dash past-hyphen past-feminine past-percent : Past
 
--- What stands after a place: nothing that a rule asks for; a run of capitals; one with a small letter; digits; digits of a form; U+2044 and a digit; a full stop and º or ª; º or ª
+-- what stands after a place: nothing that a rule asks for; a run of capitals; one with a small letter; digits; digits of a form; U+2044 and a
+-- digit; a full stop and º or ª; º or ª
 pub data Future : Type 0 where
   rest caps-on mixed-on digits-on form-on bar-on stop-on mark-on : Future
 
--- What comes next in the text is a promise of the mode: `Owing` owes a small letter, `Low` the end of a form.
+-- where a reader stands; what comes next in the text is a promise of the mode: `Owing` owes a small letter, `Low` the end of a form
 pub data Mode : Type 0 where
   -- nothing is begun
   Free : Mode
@@ -28,5 +29,6 @@ pub data Mode : Type 0 where
   -- directly after a hyphen, U+2014, ª, %
   Hyphen Dash Fem Percent : Mode
 
+-- what a row may begin with
 pub data Kind : Type 0 where
   a-digit a-hyphen a-lower-zero : Kind

@@ -1,10 +1,10 @@
 -- The proofing screen walks an accepted row. The invariant of the walk: what starts at a place from here on is what starts among the signs that
 -- are left (`Left`), and they have as many cells as the row has left. It goes on over one sign since each has a cell. Assumes nothing.
 use mathlib.Core.Path.{_≡_, refl, sym, _∙_, ap, subst}
-use mathlib.Core.Bool.{Bool, true, false, not}
+use mathlib.Core.Bool.{Bool, true, false}
 use mathlib.Core.List.{List, [], _∷_, _++_, map}
 use mathlib.Core.Option.{Option, none, some}
-use Prim.Native.Nat.{ℕ, zero, suc, _+_, _-_, _≤_, _<_}
+use Prim.Native.Nat.{ℕ, _+_, _-_, _≤_}
 use native.Mathlib.Omega.{arith}
 use lib.Dec.{T, eqb, eqb→eq, leb, le→leb}
 use lib.ListN.{length, length-append}
@@ -12,7 +12,7 @@ use Rattle.rules.specs.Cells.{Text, Row}
 use Rattle.rules.specs.Sorts.{Table}
 use Rattle.rules.specs.Signs.{Sign, printOf, cellsOf}
 use Rattle.rules.specs.Rows.{signsOf}
-use Rattle.rules.specs.Answers.{ReadsAs, signAt, Shown, shownBy, shows, Stepped, stepped}
+use Rattle.rules.specs.Answers.{ReadsAs, signAt, shownBy, shows, Stepped, stepped}
 use Rattle.rules.specs.Demands.{Walks, joined, StepsShowText}
 use Rattle.rules.proofs.Profile.{Sane}
 use Rattle.rules.proofs.Signs.{signs-join, Filled, filled-signs}

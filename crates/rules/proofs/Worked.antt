@@ -1,30 +1,26 @@
 -- The sixteen lines hold: the computed answers are the paper's, one comparison of two lists, and what is computed is the rules' answer.
 -- Assumes nothing.
-use mathlib.Core.Path.{_≡_, refl, ap}
+use mathlib.Core.Path.{_≡_, refl}
 use mathlib.Core.List.{List, [], _∷_, map}
-use Prim.Native.Nat.{ℕ}
 use Rattle.rules.specs.Cells.{dots}
 use Rattle.rules.specs.Sorts.{class, isDigitCell}
 use Rattle.rules.specs.Signs.{ownCells, lowerCells, signCells}
-use Rattle.rules.specs.Near.{next}
-use Rattle.rules.specs.Capitals.{runGoesOn, onlyCapitals, capitalWay}
 use Rattle.rules.specs.Pairs.{markOf, fits, turn, openAfter, closed}
 use Rattle.rules.specs.Places.{near, outcome}
-use Rattle.rules.specs.Rows.{sortIn, itemIn, itemsIn, verdictFrom, verdictOf}
+use Rattle.rules.specs.Rows.{sortIn, itemIn, itemsIn, verdictOf}
 use Rattle.rules.specs.Castilian.{castilian}
 use Rattle.rules.specs.Normal.{normalOf}
 use Rattle.rules.specs.Refusals.{numberOf, secondOf, longestText, longestRow}
 use Rattle.rules.specs.Answers.{Answer}
-use Rattle.rules.specs.Worked.{Question, offered, stored, Expected, Line, lines, shownAs, Answered, AllHold}
+use Rattle.rules.specs.Worked.{Question, offered, stored, Line, lines, shownAs, Answered, AllHold}
 use Rattle.rules.specs.Demands.{Worked}
 use Rattle.rules.proofs.Sides.{look, after, rule, future, row-on}
-use Rattle.rules.proofs.Machine.{step, at-rest, lead-of}
+use Rattle.rules.proofs.Machine.{step, at-rest}
 use Rattle.rules.proofs.Rows.{whole-row}
-use Rattle.rules.proofs.Pieces.{lead, items}
 use Rattle.rules.proofs.Reader.{walk, find, match, goes, hit, add, all-pieces, ways-of, begins-as, sees, look-of}
-use Rattle.rules.proofs.Profile.{print-of, decode}
+use Rattle.rules.proofs.Profile.{decode}
 use Rattle.rules.proofs.Castilian.{sane}
-use Rattle.rules.proofs.Answers.{choose, answer, answered, first-high, reading, row-answer, row-answered}
+use Rattle.rules.proofs.Answers.{choose, answer, answered, first-high, row-answer, row-answered}
 
 -- the answer to a question, computed
 abbrev computed : Question → Answer

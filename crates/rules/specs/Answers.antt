@@ -1,9 +1,8 @@
 -- The whole answer to a print and to a row (paper 01, "Numbers the desk shows"), each a type with one constructor for each line of the paper's
 -- table, in its order. The promises of the programs cite these. Assumes nothing.
-use mathlib.Core.Bool.{Bool, true, false}
-use mathlib.Core.List.{List, [], _∷_, _++_}
+use mathlib.Core.Bool.{true, false}
+use mathlib.Core.List.{List, [], _∷_}
 use mathlib.Core.Option.{Option, none, some}
-use mathlib.Core.Path.{_≡_}
 use Prim.Native.Nat.{ℕ, _+_, _-_, _≤_, _<_}
 use lib.Dec.{eqb, leb}
 use lib.ListN.{length, getD}
@@ -12,7 +11,7 @@ use Rattle.rules.specs.Sorts.{Table}
 use Rattle.rules.specs.Signs.{Sign}
 use Rattle.rules.specs.Normal.{normalOf}
 use Rattle.rules.specs.Places.{lacksSign, breaksPair, outsideForm, sharesCells}
-use Rattle.rules.specs.Rows.{rowOf, Reads, FirstFault, Faultless, LeftOpen, signsOf}
+use Rattle.rules.specs.Rows.{Reads, FirstFault, Faultless, LeftOpen, signsOf}
 use Rattle.rules.specs.Refusals.{Refusal, tooLong, atFault, needsRoom, notACell, noText, longestText, longestRow, reported}
 
 -- What is written from the first element on, "all elements after the count are as they were"; or a refusal, which "writes nothing".

@@ -1,7 +1,7 @@
 -- Capitals (paper 01, "Capitals"). In order: a run on one side of a place; how a capital is written. Assumes nothing.
 use mathlib.Core.Bool.{Bool, true, _&&_, _||_, cond}
-use mathlib.Core.List.{List, [], _∷_}
-use Rattle.rules.specs.Sorts.{Class, capital, _is_, isLetter}
+use mathlib.Core.List.{[], _∷_}
+use Rattle.rules.specs.Sorts.{capital, _is_, isLetter}
 use Rattle.rules.specs.Near.{Side, next, Near}
 use Rattle.rules.specs.Signs.{Way, bare, oneCapital, allCapitals}
 

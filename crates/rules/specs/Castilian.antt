@@ -41,7 +41,8 @@ pairs =
     ++ pair 3 (code "‘") (code "’") (6 ∷ 236 ∷ [])
     ++ pair 4 0xe000 0xe001 (35 ∷ [])
 
--- the table of the paper, by rows, but for the pairs; what profiles share
+-- The table of the paper, by rows, but for the pairs: what profiles share. A sign that a rule asks for has a sort of its own, and its cells
+-- stand in `Signs.ownCells`.
 unfoldable pub common : Table
 unfolding pairs
 common =
@@ -74,7 +75,7 @@ common =
     ∷ (code "⁄", fractionBar)
     ∷ pairs
 
--- what Castilian has alone: a full stop without an apostrophe beside it, and a { that may stand anywhere
+-- What Castilian has alone: a full stop without an apostrophe beside it, and a { that may stand anywhere.
 unfoldable pub castilian : Table
 unfolding smallLetters letters digits common
 castilian = letters smallLetters ++ digits 10 ++ (code ".", fullStop false) ∷ ("{" written 5 ∷ 123 ∷ []) ∷ common

@@ -1,6 +1,6 @@
 -- What is demanded of the rules: the letter's three demands, and paper 01's own, each a type that is proved under the same name with hyphens
 -- (`OneText` by `one-text`) in proofs/Demands.antt. They are stated over a profile's table and hold of `castilian`. Start here. Assumes nothing.
-use mathlib.Core.Bool.{Bool, false}
+use mathlib.Core.Bool.{false}
 use mathlib.Core.List.{List, [], _∷_, _++_, reverse}
 use mathlib.Core.Logic.{_↔_, _⊎_}
 use mathlib.Core.Path.{_≡_}
@@ -14,7 +14,7 @@ use Rattle.rules.specs.Normal.{normalOf}
 use Rattle.rules.specs.Places.{Cause, breaksPair}
 use Rattle.rules.specs.Rows.{itemsIn, Reads, Accepted, Fault, FirstFault, Faultless, LeftOpen, Verdict, good, bad, verdictOf, signsOf}
 use Rattle.rules.specs.Refusals.{Refusal, noText, longestText}
-use Rattle.rules.specs.Answers.{Answer, gives, refuses, PrintAnswer, ProperRow, ReadsAs, RowAnswer, Shown, StepAnswer, shows, Stepped}
+use Rattle.rules.specs.Answers.{Answer, gives, refuses, PrintAnswer, ProperRow, ReadsAs, RowAnswer, StepAnswer, shows, Stepped}
 use Rattle.rules.specs.Worked.{lines, AllHold}
 
 -- DEMAND 1. "Every sequence of numbers offered as print and every sequence of bytes offered as cells gets an answer, with no condition on the

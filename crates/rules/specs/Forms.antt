@@ -1,8 +1,8 @@
 -- Ordinals and fractions (paper 01, "Ordinals and fractions"). In order: plain digits before a place; a form's stop before it; a form ahead of
 -- it; where U+2044, º and ª stand. Assumes nothing.
 use mathlib.Core.Bool.{Bool, false, _&&_, _||_, not, cond}
-use mathlib.Core.List.{List, [], _∷_}
-use Rattle.rules.specs.Sorts.{Class, aBar, _is_, isDigit, isStop, isOrdinal}
+use mathlib.Core.List.{[], _∷_}
+use Rattle.rules.specs.Sorts.{aBar, _is_, isDigit, isStop, isOrdinal}
 use Rattle.rules.specs.Near.{Side, next, Near}
 use Rattle.rules.specs.Numbers.{underBar, numberGoesOn}
 

@@ -1,8 +1,8 @@
 -- Numbers (paper 01, "Numbers"). In order: a number on the side before a place; how a digit, a point or comma, and a to j are written.
 -- Not here: what makes a form (`Forms`). Assumes nothing.
 use mathlib.Core.Bool.{Bool, false, _&&_, _||_, not, cond}
-use mathlib.Core.List.{List, [], _∷_}
-use Rattle.rules.specs.Sorts.{Class, aBar, _is_, isDigit, isPoint}
+use mathlib.Core.List.{[], _∷_}
+use Rattle.rules.specs.Sorts.{aBar, _is_, isDigit, isPoint}
 use Rattle.rules.specs.Near.{Side, next, Near}
 use Rattle.rules.specs.Signs.{Way, bare, separated, firstDigit, firstLower, lower, denominator, inside}
 

@@ -4,12 +4,12 @@ use mathlib.Core.Bool.{Bool, true, false, not, cond}
 use mathlib.Core.List.{List, [], _∷_, _++_, map, reverse}
 use mathlib.Core.Option.{Option, none, some}
 use mathlib.Core.Path.{_≡_}
-use Prim.Native.Nat.{ℕ, zero, suc, _<_}
+use Prim.Native.Nat.{ℕ, suc, _<_}
 use lib.Dec.{eqb, T}
 use Rattle.rules.specs.Cells.{Text, Row}
 use Rattle.rules.specs.Sorts.{Sort, noSign, Item, Table}
-use Rattle.rules.specs.Signs.{Way, signCells, Sign}
-use Rattle.rules.specs.Pairs.{Opens, fits, openAfter, closed}
+use Rattle.rules.specs.Signs.{signCells, Sign}
+use Rattle.rules.specs.Pairs.{fits, openAfter, closed}
 use Rattle.rules.specs.Places.{Place, placeFrom, nearOf, classOf, Cause, breaksPair, Faulty, Outcome, fault, silent, sign, outcome}
 
 -- "any number not listed below" has no sign

@@ -1,7 +1,7 @@
 -- Signs: how a code point is written at a place, and its cells there (paper 01, "The signs" and the proofing screen's "A sign is ..").
 -- In order: the ways of writing; the cells of a sort in each; the sign that a screen's step gives. Not here: which way a place has (`Places`).
 -- Assumes nothing.
-use mathlib.Core.Bool.{Bool, true, false}
+use mathlib.Core.Bool.{true, false}
 use mathlib.Core.List.{List, [], _∷_, _++_}
 use Prim.Native.Nat.{ℕ, _+_, _%_}
 use lib.ListN.{getD}
