@@ -1,7 +1,8 @@
 -- Each demand of specs/Demands.antt, proved of the Castilian table under the demand's own name. The theorems behind them hold of any table
 -- that passes the tests of `Profile.Sane`. Assumes nothing.
 use Rattle.rules.specs.Castilian.{castilian}
-use Rattle.rules.specs.Demands.{EveryPrintAnswered, EveryRowAnswered, EveryStepAnswered, OnePrintAnswer, OneRowAnswer, OneStepAnswer, RefusedExactly, ReadsBack, OneText, NoTextExactly, Worked, NormalTwice, AcceptedIsNormal, NormalLength, OneFaultEach, VerdictIsLeast, RowExactly, ClosedMeansAll, ThreeCellsEach, CellForEachSign, SignsJoin, StepsShowText}
+use Rattle.rules.specs.Answers.{read}
+use Rattle.rules.specs.Demands.{EveryPrintAnswered, EveryRowAnswered, EveryStepAnswered, OnePrintAnswer, OneRowAnswer, OneStepAnswer, RefusedExactly, ReadsBack, OneText, GivesTheText, NoTextExactly, Worked, NormalTwice, AcceptedIsNormal, NormalLength, OneFaultEach, VerdictIsLeast, RowExactly, ClosedMeansAll, ThreeCellsEach, CellForEachSign, SignsJoin, StepsShowText}
 use Rattle.rules.proofs.Rows as rows
 use Rattle.rules.proofs.Pairs as pairs
 use Rattle.rules.proofs.Normal as normal
@@ -41,6 +42,9 @@ reads-back = answers.reads-back-whole castilian sane
 -- demand 3
 pub one-text : OneText castilian
 one-text = profile.one-text castilian sane
+
+pub gives-the-text : GivesTheText castilian
+gives-the-text r t room h l = read t h l
 
 pub no-text-exactly : NoTextExactly castilian
 no-text-exactly = answers.no-text-exactly castilian sane

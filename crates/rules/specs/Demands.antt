@@ -55,6 +55,10 @@ ReadsBack tb =
 abbrev pub OneText : Table → Type 0
 OneText tb = (r : Row) (t u : Text) → Reads tb r t → Reads tb r u → t ≡ u
 
+-- "The reader returns that text if it exists and fits"
+abbrev pub GivesTheText : Table → Type 0
+GivesTheText tb = (r : Row) (t : Text) (room : ℕ) → ReadsAs tb r t → length t ≤ room → RowAnswer tb r room (gives t)
+
 -- "it says "no text" exactly when none of any length has the row"
 abbrev pub NoTextExactly : Table → Type 0
 NoTextExactly tb = (r : Row) (room : ℕ) → RowAnswer tb r room (refuses noText) ↔ (ProperRow r × ((t : Text) → Reads tb r t → ⊥))

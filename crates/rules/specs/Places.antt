@@ -104,7 +104,7 @@ pub data Outcome : Type 0 where
   silent : Outcome
   sign : Way → Outcome
 
--- "the full stop has no cell", "U+2044 has no cell"
+-- How a place that is not at fault is written: "the full stop has no cell", "U+2044 has no cell". (What it says of a place at fault is not used.)
 unfoldable pub written : Near → Class → Outcome
 unfolding capitalWay digitWay pointWay aToJWay
 written n aToJ = sign (aToJWay n)

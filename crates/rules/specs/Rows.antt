@@ -34,7 +34,7 @@ outcomeAt p = outcome (nearOf p) (classOf p)
 abbrev pub fitsAt : Place → Bool
 fitsAt p = fits (openAfter (p .before)) (p .here .1)
 
--- The row of a text: the cells of each place, joined. The rules give none where a place is at fault or a kind is open at the end.
+-- THE ROW: the cells of each place, joined. The rules give none where a place is at fault or a kind is open at the end.
 abbrev pub withCells : Row → Option Row → Option Row
 withCells w none = none
 withCells w (some r) = some (w ++ r)
@@ -59,7 +59,7 @@ Reads tb r t = rowOf tb t ≡ some r
 abbrev pub Accepted : Table → Text → Type 0
 Accepted tb t = (r : Row) × Reads tb r t
 
--- The place n of a text is at fault.
+-- FAULTS: the place n of a text is at fault
 abbrev pub FaultyPlace : Option Place → Cause → Type 0
 FaultyPlace none c = ⊥
 FaultyPlace (some p) c = Faulty p c
@@ -79,7 +79,7 @@ Faultless tb t = (n : ℕ) (c : Cause) → Fault tb t n c → ⊥
 abbrev pub LeftOpen : Table → Text → Type 0
 LeftOpen tb t = T (not (closed (openAfter (reverse (itemsIn tb t)))))
 
--- The verdict on a text: accepted; or why it is refused, and at which place: the text's length if something is open at the end.
+-- THE VERDICT on a text: accepted; or why it is refused, and at which place: the text's length if something is open at the end
 pub data Verdict : Type 0 where
   good : Verdict
   bad : Cause → ℕ → Verdict
@@ -98,7 +98,7 @@ unfoldable pub verdictOf : Table → Text → Verdict
 unfolding verdictFrom itemsIn
 verdictOf tb t = verdictFrom [] 0 (itemsIn tb t)
 
--- The signs of a text: "A code point without a cell goes with the sign after it", so those that wait stand first in its print.
+-- THE SIGNS of a text: "A code point without a cell goes with the sign after it", so those that wait stand first in its print
 abbrev pub signOnward : Outcome → Text → Item → (Text → List Sign) → List Sign
 signOnward (fault c) waiting i rest = rest []
 signOnward silent waiting i rest = rest (waiting ++ i .0 ∷ [])

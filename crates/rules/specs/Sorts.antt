@@ -50,6 +50,7 @@ isDigitCell c = among c (cells digitDots)
 pub data Class : Type 0 where
   aToJ otherSmall capital one otherDigit aStop aComma aHyphen aDash aBar masculine feminine aPercent otherSign unlisted : Class
 
+-- (a to j are the small letters whose cells are digits')
 unfoldable pub class : Sort → Class
 unfolding isDigitCell
 class (letter c true) = capital
