@@ -93,7 +93,8 @@ module _ (tb : Table) where
       ⊎-elim
       (λ l. subst (PrintAnswer tb p room) (sym (choose-le (length t) longestText (by-verdict (verdictOf tb t) (whole-row tb t) room) _ l))
       (short l (verdictOf tb t) (verdict-is-least tb t) refl))
-      (λ l. subst (PrintAnswer tb p room) (sym (choose-lt (length t) longestText (by-verdict (verdictOf tb t) (whole-row tb t) room) _ l)) (print-refused _ (too-long l)))
+      (λ l. subst (PrintAnswer tb p room) (sym (choose-lt (length t) longestText (by-verdict (verdictOf tb t) (whole-row tb t) room) _ l))
+      (print-refused _ (too-long l)))
       (le-or-lt (length t) longestText)
     where
       t : Text

@@ -26,6 +26,10 @@ pub implies : (a b : Bool) → T a → T (not a || b) → T b
 implies true b s t = t
 implies false b s t = absurd s
 
+pub false-of : (b : Bool) → T (not b) → b ≡ false
+false-of true t = absurd t
+false-of false t = refl
+
 pub T-of-eqb : (n : ℕ) {m : ℕ} → n ≡ m → T (eqb n m)
 T-of-eqb n e = subst (λ (k : ℕ). T (eqb n k)) e (eqb-refl n)
 

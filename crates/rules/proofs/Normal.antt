@@ -19,7 +19,7 @@ use Rattle.rules.specs.Places.{Outcome, fault, silent, sign}
 use Rattle.rules.specs.Rows.{sortIn, itemIn, itemsIn}
 use Rattle.rules.specs.Normal.{replacements, replacedBy, isDigitPoint, isOrdinalPoint, normalAfter, normalOf}
 use Rattle.rules.specs.Demands.{NormalTwice, NormalLength}
-use Rattle.rules.proofs.Finite.{le-or-lt, all, every, every2, at2, every3, at3, and-left, and-right, and-both, implies, holds, Hold, hold}
+use Rattle.rules.proofs.Finite.{false-of, le-or-lt, all, every, every2, at2, every3, at3, and-left, and-right, and-both, implies, holds, Hold, hold}
 use Rattle.rules.proofs.States.{Past, Future}
 use Rattle.rules.proofs.Sides.{in-digits, rule, after, future}
 use Rattle.rules.proofs.Enumerations.{classes, pasts, futures, class-same}
@@ -55,7 +55,8 @@ kept-or f (r ∷ rs) t c = go (eqb (code (r .0)) c) refl (kept-or f rs (and-righ
   where
     go : (b : Bool) → eqb (code (r .0)) c ≡ b → T (kept rs c) ⊎ ((s : Replacement) × (code (s .0) ≡ c) × (replacedBy rs c ≡ print (s .1)) × T (f s))
         → T (not b && kept rs c)
-        ⊎ ((s : Replacement) × (code (s .0) ≡ c) × (_≡_ {A = Text} (elim b as (λ _. Text) [ true ↦ print (r .1) | false ↦ replacedBy rs c ]) (print (s .1))) × T (f s))
+        ⊎ ((s : Replacement) × (code (s .0) ≡ c)
+        × (_≡_ {A = Text} (elim b as (λ _. Text) [ true ↦ print (r .1) | false ↦ replacedBy rs c ]) (print (s .1))) × T (f s))
     go true e h = inr (r, eqb→eq (code (r .0)) c (subst T (sym e) tt), refl, and-left (f r) (every f rs) t)
     go false e h = h
 
@@ -85,10 +86,6 @@ kept-or-replaced : (c : ℕ) → T (kept replacements c) ⊎ Replaced c
 kept-or-replaced c = kept-or (λ r. holds (facts r)) replacements facts-hold c
 
 -- normalising leaves such text alone
-false-of : (b : Bool) → T (not b) → b ≡ false
-false-of true t = absurd t
-false-of false t = refl
-
 and-false : (d : Bool) → d && false ≡ false
 and-false true = refl
 and-false false = refl

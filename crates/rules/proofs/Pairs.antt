@@ -14,7 +14,7 @@ use Rattle.rules.specs.Sorts.{Sort, Item, Table}
 use Rattle.rules.specs.Pairs.{kinds, Opens, leavesOpen, markOf, markTurns, turn, openAfter, closedBelow, closed}
 use Rattle.rules.specs.Rows.{sortIn, itemIn, itemsIn}
 use Rattle.rules.specs.Demands.{ClosedMeansAll}
-use Rattle.rules.proofs.Finite.{le-or-lt, every, and-left, and-right}
+use Rattle.rules.proofs.Finite.{false-of, le-or-lt, every, and-left, and-right}
 
 abbrev known-kind : Option (ℕ × Bool) → Bool
 known-kind none = true
@@ -26,7 +26,9 @@ kinds-known tb = every (λ (i : Item). known-kind (markOf (i .1))) tb
 sort-known : (tb : Table) → T (kinds-known tb) → (c : ℕ) → T (known-kind (markOf (sortIn tb c)))
 unfolding kinds-known sortIn markOf
 sort-known [] t c = tt
-sort-known (i ∷ tb) t c = go (eqb (i .0) c) (and-left (known-kind (markOf (i .1))) (kinds-known tb) t) (sort-known tb (and-right (known-kind (markOf (i .1))) (kinds-known tb) t) c)
+sort-known (i ∷ tb) t c =
+    go (eqb (i .0) c) (and-left (known-kind (markOf (i .1))) (kinds-known tb) t)
+    (sort-known tb (and-right (known-kind (markOf (i .1))) (kinds-known tb) t) c)
   where
     go : (b : Bool) → T (known-kind (markOf (i .1))) → T (known-kind (markOf (sortIn tb c)))
         → T (known-kind (markOf (elim b as (λ _. Sort) [ true ↦ i .1 | false ↦ sortIn tb c ])))
@@ -57,11 +59,7 @@ unfolding closedBelow
 closed-below zero o t k l = absurd (not-suc-le-zero l)
 closed-below (suc n) o t k l =
     ⊎-elim (λ h. closed-below n o (and-right (not (o n)) (closedBelow n o) t) k h)
-    (λ h. let z : k ≡ n = omega arith in ap o z ∙ shut (o n) (and-left (not (o n)) (closedBelow n o) t)) (le-or-lt (suc k) n)
-  where
-    shut : (b : Bool) → T (not b) → b ≡ false
-    shut true t = absurd t
-    shut false t = refl
+    (λ h. let z : k ≡ n = omega arith in ap o z ∙ false-of (o n) (and-left (not (o n)) (closedBelow n o) t)) (le-or-lt (suc k) n)
 
 pub closed-means-all : (tb : Table) → T (kinds-known tb) → ClosedMeansAll tb
 unfolding closed openAfter

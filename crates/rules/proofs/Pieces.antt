@@ -371,7 +371,8 @@ wait-silent q p f c s e t = go (lead-class (class s)) (silent-item q p f c s e t
     go n h = code-of n (eqb n 0x2044) refl (eqb n 0x2e) refl (ap (map (λ (i : Item). i .0)) h)
       where
         code-of : (n : ℕ) (x : Bool) → eqb n 0x2044 ≡ x → (y : Bool) → eqb n 0x2e ≡ y
-            → _≡_ {A = List ℕ} (c ∷ []) (map (λ (i : Item). i .0) (cond x ((0x2044, fractionBar) ∷ []) (cond y ((0x2e, fullStop q) ∷ []) []))) → wait-text n ≡ c ∷ []
+            → _≡_ {A = List ℕ} (c ∷ []) (map (λ (i : Item). i .0) (cond x ((0x2044, fractionBar) ∷ []) (cond y ((0x2e, fullStop q) ∷ []) [])))
+            → wait-text n ≡ c ∷ []
         code-of n true ex y ey h = ap wait-text (eqb→eq n 0x2044 (subst T (sym ex) tt)) ∙ sym h
         code-of n false ex true ey h = ap wait-text (eqb→eq n 0x2e (subst T (sym ey) tt)) ∙ sym h
         code-of n false ex false ey h = let z : _≡_ {A = ℕ} 0 1 = cc in absurd (omega arith)

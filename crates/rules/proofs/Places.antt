@@ -14,7 +14,7 @@ use Rattle.rules.specs.Forms.{ordinalStop, formGoesOn, stopOfOrdinal}
 use Rattle.rules.specs.Pairs.{Opens, markOf, markFits, fits, openAfter}
 use Rattle.rules.specs.Places.{Place, Faulty, without-sign, against-pair-rule, out-of-form, sharing-cells, classAt, sideOf, near, nearOf, classOf, Cause, written, lacksSign, breaksPair, outsideForm, sharesCells, hasNoSign, isOutsideForm, wouldShareCells, Outcome, fault, silent, sign, outcome}
 use Rattle.rules.specs.Rows.{at, outcomeAt, fitsAt}
-use Rattle.rules.proofs.Finite.{nothing, every2, at2, every3, at3, beq-same, Hold, hold, holds}
+use Rattle.rules.proofs.Finite.{false-of, nothing, every2, at2, every3, at3, beq-same, Hold, hold, holds}
 use Rattle.rules.proofs.States.{Past, free, past-on, past-bar, past-stop, past-dash, past-hyphen, past-feminine, Future, rest}
 use Rattle.rules.proofs.Sides.{_was_, in-run, in-mixed, in-denominator, in-digits, at-point, caps-next, mixed-next, digit-next, mark-next, form-next, rule, look, after, future}
 use Rattle.rules.proofs.Enumerations.{classes, pasts, futures, way-same, causeNumber, cause-same}
@@ -268,10 +268,6 @@ fits-unmarked : (o : Opens) (s : Sort) → class s is otherSign ≡ false → fi
 unfolding fits
 fits-unmarked o s e = ap (markFits o) (unmarked s e)
 
-not-false-of : (b : Bool) → T (not b) → b ≡ false
-not-false-of true t = absurd t
-not-false-of false t = refl
-
 -- the fault that is found at a place
 abbrev pub found : Bool → Outcome → Option Cause
 found false x = some breaksPair
@@ -284,7 +280,7 @@ unfolding outcome
 faulty-found p c (without-sign t) =
     let h = alone-at _ _ _ _ (faults-at (sideOf (p .before)) (classOf p) (sideOf (p .after)) .0) t in
     simp (fits-unmarked (openAfter (p .before)) (p .here .1) (h .1), h .0)
-faulty-found p c (against-pair-rule t) = simp (not-false-of (fitsAt p) t)
+faulty-found p c (against-pair-rule t) = simp (false-of (fitsAt p) t)
 faulty-found p c (out-of-form t) =
     let h = alone-at _ _ _ _ (faults-at (sideOf (p .before)) (classOf p) (sideOf (p .after)) .1 .0) t in
     simp (fits-unmarked (openAfter (p .before)) (p .here .1) (h .1), h .0, h .2)

@@ -252,7 +252,8 @@ module _ (tb : Table) (sane : Sane tb) where
   unfolding recoded itemsIn
   same-cons i a e ih = cc
 
-  same-due : (n : ℕ) (i : Item) (a : List Item) → itemIn tb (i .0) ≡ i → recoded a ≡ a → recoded (due (sane .shares) n ++ i ∷ a) ≡ due (sane .shares) n ++ i ∷ a
+  same-due : (n : ℕ) (i : Item) (a : List Item) → itemIn tb (i .0) ≡ i → recoded a ≡ a
+      → recoded (due (sane .shares) n ++ i ∷ a) ≡ due (sane .shares) n ++ i ∷ a
   unfolding itemIn
   same-due n i a e ih = go (eqb n 0x2044) (eqb n 0x2e)
     where

@@ -297,9 +297,6 @@ some-hit w r n t = go (match w r (look-of n)) t
     go false u = absurd u
 
 -- two pieces that are apart never both fit
-not-both : (b : Bool) → T b → T (not b) → ⊥
-not-both b t u = T-not b u t
-
 rivals-differ : (x y o : Bool) → T (x && not y || not x && y) → T (mayStand x o) → T (mayStand y o) → ⊥
 rivals-differ true true o t f g = t
 rivals-differ true false o t f g = T-not o f g
@@ -320,9 +317,9 @@ unfolding contrary
 contrary-two any l x y t a b = t
 contrary-two (wants j) any x y t a b = t
 contrary-two (wants j) (wants k) x y t a b = t
-contrary-two (wants j) (shuns k) x y t a b = not-both (begins-as k x y) (subst (λ (h : Kind). T (begins-as h x y)) (kind-same j k t) a) b
+contrary-two (wants j) (shuns k) x y t a b = T-not (begins-as k x y) b (subst (λ (h : Kind). T (begins-as h x y)) (kind-same j k t) a)
 contrary-two (shuns j) any x y t a b = t
-contrary-two (shuns j) (wants k) x y t a b = not-both (begins-as j x y) (subst (λ (h : Kind). T (begins-as h x y)) (sym (kind-same j k t)) b) a
+contrary-two (shuns j) (wants k) x y t a b = T-not (begins-as j x y) a (subst (λ (h : Kind). T (begins-as h x y)) (sym (kind-same j k t)) b)
 contrary-two (shuns j) (shuns k) x y t a b = t
 
 contrary-apart : (k l : Look) (r : Row) → T (contrary k l) → T (sees k r) → T (sees l r) → ⊥
@@ -362,9 +359,9 @@ module _ (s t : Piece) (m n k : Mode) (o : Opens) (es : step m (s .0) (classAt (
       go true e d = rivals-apart o (markOf (s .1 .1)) (markOf (t .1 .1)) (subst T (sym e) tt) fs ft
       go false e d = contrary-apart (look-of n) (look-of k) r (both-at (λ x y. contrary (look-of x) (look-of y)) d) a b
   diverge-apart [] (y ∷ v) r a b d =
-      not-both (may (look-of n) (y ∷ v)) (may-match (look-of n) (look-of k) (y ∷ v) r b a) (both-at (λ p q. not (may (look-of p) (y ∷ v))) d)
+      T-not (may (look-of n) (y ∷ v)) (both-at (λ p q. not (may (look-of p) (y ∷ v))) d) (may-match (look-of n) (look-of k) (y ∷ v) r b a)
   diverge-apart (x ∷ w) [] r a b d =
-      not-both (may (look-of k) (x ∷ w)) (may-match (look-of k) (look-of n) (x ∷ w) r a b) (both-at (λ p q. not (may (look-of q) (x ∷ w))) d)
+      T-not (may (look-of k) (x ∷ w)) (both-at (λ p q. not (may (look-of q) (x ∷ w))) d) (may-match (look-of k) (look-of n) (x ∷ w) r a b)
   diverge-apart (x ∷ w) (y ∷ v) [] a b d = a
   diverge-apart (x ∷ w) (y ∷ v) (z ∷ r) a b d =
       diverge-apart w v r (and-right (eqb x z) (match w r (look-of n)) a) (and-right (eqb y z) (match v r (look-of k)) b)

@@ -99,7 +99,11 @@ says-onward : (b : List Item) (n : ℕ) (i : Item) (a : List Item) → found (fi
     → Says (i ∷ b) (suc n) a v → Says b n (i ∷ a) v
 unfolding placeFrom
 says-onward b n i a e good h = (sound-cons b i a e (h .0), h .1)
-says-onward b n i a e (bad c m) h = (suc (h .0), omega (arith, h .1), ⊎-elim (λ f. inl (f .0, least (f .1))) (λ f. inr (f .0, ap suc (f .1), sound-cons b i a e (f .2), f .3)) (h .2))
+says-onward b n i a e (bad c m) h = (
+  suc (h .0),
+  omega (arith, h .1),
+  ⊎-elim (λ f. inl (f .0, least (f .1))) (λ f. inr (f .0, ap suc (f .1), sound-cons b i a e (f .2), f .3)) (h .2),
+)
   where
     least : ((j : ℕ) → j < h .0 → (d : Cause) → FaultyPlace (placeFrom (i ∷ b) a j) d → ⊥)
         → (j : ℕ) → j < suc (h .0) → (d : Cause) → FaultyPlace (placeFrom b (i ∷ a) j) d → ⊥

@@ -3,11 +3,12 @@
 use mathlib.Core.Path.{_≡_, refl, sym, _∙_, ap, subst}
 use mathlib.Core.Logic.{_⊎_, inl, inr}
 use mathlib.Core.Bool.{Bool, true, false, cond}
-use mathlib.Core.List.{List, [], _∷_, _++_, map}
+use mathlib.Core.List.{List, [], _∷_, _++_, map, map-append}
 use Prim.Native.Nat.{ℕ, zero, suc, _*_, _≤_, _<_}
 use native.Mathlib.Nat.{le-of-suc-le-suc, not-suc-le-zero}
 use native.Mathlib.Omega.{arith}
 use lib.Dec.{T, leb, leb→le}
+use lib.Seq.{append-snoc}
 use lib.ListN.{length, length-append, length-map, getD}
 use Rattle.rules.specs.Cells.{Text, Row, lastCell}
 use Rattle.rules.specs.Sorts.{Item, Table}
@@ -33,22 +34,14 @@ lead-print q w = go (w by denominator) (w by ordinalMark)
     go false true = refl
     go false false = refl
 
-map-append : (a b : List Item) → code-points (a ++ b) ≡ code-points a ++ code-points b
-map-append [] b = refl
-map-append (i ∷ a) b = ap (λ (t : Text). i .0 ∷ t) (map-append a b)
-
-append-one : (w : Text) (c : ℕ) (t : Text) → w ++ c ∷ t ≡ (w ++ c ∷ []) ++ t
-append-one [] c t = refl
-append-one (x ∷ w) c t = ap (λ (u : Text). x ∷ u) (append-one w c t)
-
 print-signs : (q : Bool) (ss : List Piece) → printOf (map sign-of ss) ≡ print-of q ss
 unfolding print-of items
 print-signs q [] = refl
 print-signs q (s ∷ ss) =
     ap (λ (t : Text). (wait-text (lead-of (s .0)) ++ s .1 .0 ∷ []) ++ t) (print-signs q ss)
-    ∙ sym (append-one (wait-text (lead-of (s .0))) (s .1 .0) (print-of q ss))
+    ∙ append-snoc (wait-text (lead-of (s .0))) (s .1 .0) (print-of q ss)
     ∙ ap (λ (w : Text). w ++ s .1 .0 ∷ print-of q ss) (sym (lead-print q (s .0)))
-    ∙ sym (map-append (lead q (s .0)) (s .1 ∷ items q ss))
+    ∙ sym (map-append (λ (i : Item). i .0) (lead q (s .0)) (s .1 ∷ items q ss))
 
 cells-signs : (ss : List Piece) → cellsOf (map sign-of ss) ≡ words ss
 unfolding words
@@ -126,8 +119,14 @@ module _ (tb : Table) (sane : Sane tb) where
   three-cells-each t r e =
       let h : OfText tb sane r t = of-text tb sane r t e in
       let ss : List Piece = pieces-of tb sane t in
-      omega
-      (arith, ap length (h .row), ap length (h .print), length-map (items (sane .shares) ss) (λ (i : Item). i .0), length-print (sane .shares) ss, word-three ss (h .inside))
+      omega (
+        arith,
+        ap length (h .row),
+        ap length (h .print),
+        length-map (items (sane .shares) ss) (λ (i : Item). i .0),
+        length-print (sane .shares) ss,
+        word-three ss (h .inside),
+      )
 
   pub cell-for-each-sign : CellForEachSign tb
   cell-for-each-sign t r e =
