@@ -17,7 +17,8 @@ use Rattle.rules.specs.Normal.{normalOf}
 use Rattle.rules.specs.Places.{Cause, lacksSign, breaksPair, outsideForm, sharesCells}
 use Rattle.rules.specs.Rows.{Reads, Accepted, Fault, FirstFault, Faultless, LeftOpen, Verdict, good, bad, verdictOf, signsOf}
 use Rattle.rules.specs.Refusals.{Refusal, tooLong, atFault, needsRoom, notACell, noText, longestText, longestRow, reported}
-use Rattle.rules.specs.Answers.{Answer, gives, refuses, PrintRefused, too-long, no-sign, pair-broken, left-open, outside-form, shares-cells, row-needs-room, PrintAnswer, print-refused, transcribed, ProperRow, RowRefused, long-row, not-a-cell, no-text, long-text, ReadsAs, RowAnswer, row-refused, text-needs-room, read, signAt, shownBy, StepAnswer, shows, stays, Stepped, stepped, stayed}
+use Rattle.rules.specs.Answers.{Answer, gives, refuses, PrintRefused, too-long, no-sign, pair-broken, left-open, outside-form, shares-cells, row-needs-room, PrintAnswer, print-refused, transcribed, ProperRow, RowRefused, long-row, not-a-cell, no-text, long-text, ReadsAs, RowAnswer, row-refused, text-needs-room, read}
+use Rattle.rules.specs.Screen.{signAt, shownBy, StepAnswer, shows, stays, Stepped, stepped, stayed}
 use Rattle.rules.specs.Demands.{EveryPrintAnswered, EveryRowAnswered, EveryStepAnswered, OnePrintAnswer, OneRowAnswer, OneStepAnswer, RefusedExactly, ReadsBack, NoTextExactly, VerdictMeans}
 use Rattle.rules.proofs.Finite.{nothing, le-or-lt}
 use Rattle.rules.proofs.Rows.{whole-row, reads-good, good-reads, verdict-is-least, row-exactly, one-fault-each}

@@ -12,7 +12,8 @@ use Rattle.rules.specs.Cells.{Text, Row}
 use Rattle.rules.specs.Sorts.{Table}
 use Rattle.rules.specs.Signs.{Sign, printOf, cellsOf}
 use Rattle.rules.specs.Rows.{signsOf}
-use Rattle.rules.specs.Answers.{ReadsAs, signAt, shownBy, shows, Stepped, stepped}
+use Rattle.rules.specs.Answers.{ReadsAs}
+use Rattle.rules.specs.Screen.{signAt, shownBy, shows, Stepped, stepped}
 use Rattle.rules.specs.Demands.{Walks, joined, StepsShowText}
 use Rattle.rules.proofs.Profile.{Sane}
 use Rattle.rules.proofs.Signs.{signs-join, Filled, filled-signs}

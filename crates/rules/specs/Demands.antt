@@ -14,7 +14,8 @@ use Rattle.rules.specs.Normal.{normalOf}
 use Rattle.rules.specs.Places.{Cause, breaksPair}
 use Rattle.rules.specs.Rows.{itemsIn, Reads, Accepted, Fault, FirstFault, Faultless, LeftOpen, Verdict, good, bad, verdictOf, signsOf}
 use Rattle.rules.specs.Refusals.{Refusal, noText, longestText}
-use Rattle.rules.specs.Answers.{Answer, gives, refuses, PrintAnswer, ProperRow, ReadsAs, RowAnswer, StepAnswer, shows, Stepped}
+use Rattle.rules.specs.Answers.{Answer, gives, refuses, PrintAnswer, ProperRow, ReadsAs, RowAnswer}
+use Rattle.rules.specs.Screen.{StepAnswer, shows, Stepped}
 use Rattle.rules.specs.Worked.{lines, AllHold}
 
 -- DEMAND 1. "Every sequence of numbers offered as print and every sequence of bytes offered as cells gets an answer, with no condition on the

@@ -12,5 +12,6 @@ pub mod Castilian
 pub mod Normal
 pub mod Refusals
 pub mod Answers
+pub mod Screen
 pub mod Worked
 pub mod Demands
