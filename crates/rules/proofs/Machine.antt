@@ -6,6 +6,7 @@ use mathlib.Core.Bool.{Bool, true, false, _&&_, _||_, not, cond}
 use mathlib.Core.List.{List, [], _∷_}
 use mathlib.Core.Option.{Option, none, some}
 use Prim.Native.Nat.{ℕ}
+use Prim.Native.Char.{code}
 use lib.Dec.{T, eqb, eqb→eq}
 use Rattle.rules.specs.Sorts.{Class, aToJ, otherSmall, capital, one, otherDigit, aStop, aComma, aHyphen, aDash, aBar, masculine, feminine, aPercent, otherSign, unlisted}
 use Rattle.rules.specs.Signs.{Way, bare, oneCapital, allCapitals, separated, firstDigit, firstLower, lower, denominator, ordinalMark, inside}
@@ -128,13 +129,20 @@ mode-at past-hyphen f = Hyphen
 mode-at past-feminine f = Fem
 mode-at past-percent f = Percent
 
+-- the two code points that may have no cell
+abbrev pub the-bar : ℕ
+the-bar = code "⁄"
+
+abbrev pub the-stop : ℕ
+the-stop = code "."
+
 -- A code point that has no cell and goes with the sign after it: it waits at a place; it goes with a sign of this way; a class may be one.
 -- 0 for none. (No other class is silent: `silent-lead`.)
 unfoldable pub waiting : Past → Future → ℕ
-waiting p f = cond (p was past-bar) 0x2044 (cond (p was past-stop && mark-next f) 0x2e 0)
+waiting p f = cond (p was past-bar) the-bar (cond (p was past-stop && mark-next f) the-stop 0)
 
 unfoldable pub lead-of : Way → ℕ
-lead-of w = cond (w by denominator) 0x2044 (cond (w by ordinalMark) 0x2e 0)
+lead-of w = cond (w by denominator) the-bar (cond (w by ordinalMark) the-stop 0)
 
 unfoldable pub lead-class : Class → ℕ
 lead-class aToJ = 0
@@ -142,11 +150,11 @@ lead-class otherSmall = 0
 lead-class capital = 0
 lead-class one = 0
 lead-class otherDigit = 0
-lead-class aStop = 0x2e
+lead-class aStop = the-stop
 lead-class aComma = 0
 lead-class aHyphen = 0
 lead-class aDash = 0
-lead-class aBar = 0x2044
+lead-class aBar = the-bar
 lead-class masculine = 0
 lead-class feminine = 0
 lead-class aPercent = 0

@@ -17,7 +17,7 @@ use Rattle.rules.specs.Sorts.{Table, Class, unlisted, class, _is_, isDig
 use Rattle.rules.specs.Pairs.{Opens, turn}
 use Rattle.rules.specs.Places.{Outcome, fault, silent, sign}
 use Rattle.rules.specs.Rows.{sortIn, itemIn, itemsIn}
-use Rattle.rules.specs.Normal.{replacements, replacedBy, isDigitPoint, isOrdinalPoint, normalAfter, normalOf}
+use Rattle.rules.specs.Normal.{replacements, replacedBy, isDigitPoint, isOrdinalPoint, becomes, normalAfter, normalOf}
 use Rattle.rules.specs.Demands.{NormalTwice, NormalLength}
 use Rattle.rules.proofs.Finite.{false-of, le-or-lt, all, every, every2, at2, every3, at3, and-left, and-right, and-both, implies, holds, Hold, hold}
 use Rattle.rules.proofs.States.{Past, Future}
@@ -27,10 +27,6 @@ use Rattle.rules.proofs.Pieces.{Passes, Good}
 
 abbrev Replacement : Type 0
 Replacement = Char × String
-
--- what a code point becomes, after a digit or not
-abbrev pub becomes : Bool → ℕ → Text
-becomes d c = cond (d && isOrdinalPoint c) (code "." ∷ c ∷ []) (replacedBy replacements c)
 
 -- a code point that is kept: no replacement is for it
 abbrev pub kept : List Replacement → ℕ → Bool
@@ -212,7 +208,7 @@ unfoldable pub normal-codes : Table → Bool
 unfolding upto replacements
 normal-codes tb = holds (replaced-lack tb ∷ digits-listed tb ∷ ordinals-listed tb ∷ [])
 
--- TEST: after a digit no ordinal passes; after a digit's class a digit is before; what is unlisted never passes
+-- TESTS: directly after a digit no ordinal passes (`ordinal-all`); after a digit's class a digit stands directly before (`digit-all`)
 passes : Outcome → Bool
 passes (fault c) = false
 passes silent = true
@@ -244,11 +240,11 @@ module _ (tb : Table) (ok : T (normal-codes tb)) where
   digit-listed : (c : ℕ) → T (isDigitPoint c) → T (isDigit (class (sortIn tb c)))
   unfolding isDigitPoint
   digit-listed c t =
-      let l : 48 ≤ c = leb→le 48 c (and-left (leb 48 c) (leb c 57) t) in
-      let u : c ≤ 57 = leb→le c 57 (and-right (leb 48 c) (leb c 57) t) in
-      let z : 48 + (c - 48) ≡ c = omega arith in
+      let l : code "0" ≤ c = leb→le (code "0") c (and-left (leb (code "0") c) (leb c (code "9")) t) in
+      let u : c ≤ code "9" = leb→le c (code "9") (and-right (leb (code "0") c) (leb c (code "9")) t) in
+      let z : code "0" + (c - code "0") ≡ c = omega arith in
       subst (λ (k : ℕ). T (isDigit (class (sortIn tb k)))) z
-      (every-upto (λ d. isDigit (class (sortIn tb (48 + d)))) 10 (listed .1 .0) (c - 48) (omega arith))
+      (every-upto (λ d. isDigit (class (sortIn tb (code "0" + d)))) 10 (listed .1 .0) (c - code "0") (omega arith))
 
   ordinal-listed : (c : ℕ) → T (isOrdinalPoint c) → T (isOrdinal (class (sortIn tb c)))
   unfolding isOrdinalPoint

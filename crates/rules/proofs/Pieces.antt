@@ -19,9 +19,9 @@ use Rattle.rules.proofs.Finite.{and-left, and-right, beq-same, Hold, ev
 use Rattle.rules.proofs.States.{Past, Future, Mode}
 use Rattle.rules.proofs.Sides.{rule, look, after, future, outcome-cells, row-on, verdict-on}
 use Rattle.rules.proofs.Enumerations.{classes, pasts, futures, way-same, mode-same}
-use Rattle.rules.proofs.Machine.{same-mode, step, mode-at, at-rest, ahead, see, waiting, lead-of, lead-class, ready, onward-by, onward-at, view-at, end-at, back-at, rest-at, back-by, lands, lands-two, is-sign, is-silent, is-some}
+use Rattle.rules.proofs.Machine.{the-bar, the-stop, same-mode, step, mode-at, at-rest, ahead, see, waiting, lead-of, lead-class, ready, onward-by, onward-at, view-at, end-at, back-at, rest-at, back-by, lands, lands-two, is-sign, is-silent, is-some}
 use Rattle.rules.proofs.Places.{past, past-of, outcome-at}
-use Rattle.rules.proofs.Rows.{not-both}
+use Rattle.rules.proofs.Rows.{bad-not-good}
 
 -- how it is written, and the code point
 abbrev pub Piece : Type 0
@@ -32,7 +32,7 @@ word s = signCells (s .0) (s .1 .1)
 
 -- what goes before the code point of a piece and has no cell
 abbrev pub due : Bool → ℕ → List Item
-due q n = cond (eqb n 0x2044) ((0x2044, fractionBar) ∷ []) (cond (eqb n 0x2e) ((0x2e, fullStop q) ∷ []) [])
+due q n = cond (eqb n the-bar) ((the-bar, fractionBar) ∷ []) (cond (eqb n the-stop) ((the-stop, fullStop q) ∷ []) [])
 
 unfoldable pub lead : Bool → Way → List Item
 unfolding lead-of
@@ -66,8 +66,8 @@ Good p o [] = T (closed o)
 Good p o (i ∷ a) = T (fits o (i .1)) × Passes (rule p (classAt i) (future a)) × Good (after p (classAt i)) (turn (i .1) o) a
 
 judge-good : (b : Bool) (x : Outcome) (n : ℕ) (v : Verdict) → judge b x n v ≡ good → T b × Passes x × (v ≡ good)
-judge-good false x n v e = not-both e
-judge-good true (fault c) n v e = not-both e
+judge-good false x n v e = bad-not-good e
+judge-good true (fault c) n v e = bad-not-good e
 judge-good true silent n v e = (tt, tt, e)
 judge-good true (sign w) n v e = (tt, tt, e)
 
@@ -83,7 +83,7 @@ good-of-verdict p o n [] e = go (closed o) e
   where
     go : (b : Bool) → cond b good (bad breaksPair n) ≡ good → T b
     go true e = tt
-    go false e = not-both e
+    go false e = bad-not-good e
 good-of-verdict p o n (i ∷ a) e =
     let h = judge-good (fits o (i .1)) (rule p (classAt i) (future a)) n (verdict-on (after p (classAt i)) (turn (i .1) o) (ℕ.suc n) a) e in
     (h .0, h .1, good-of-verdict (after p (classAt i)) (turn (i .1) o) (ℕ.suc n) a (h .2))
@@ -165,15 +165,15 @@ runs p o (i ∷ a) g r =
     runs-put p o i f (rule p (classAt i) f) refl (g .1) (g .0) t (pieces (after p (classAt i)) a)
     (runs (after p (classAt i)) (turn (i .1) o) a (g .2) (ready-next p (classAt i) f (rule p (classAt i) f) (g .1) t))
 
--- only 0x2e is a full stop, of the profile's own sort, and only 0x2044 stands over a denominator
+-- only one code point is a full stop, of the profile's own sort, and only one stands over a denominator
 unfoldable pub proper-code : Bool → ℕ → Sort → Bool
 proper-code q c (letter d b) = true
 proper-code q c (digit d) = true
-proper-code q c (fullStop b) = eqb c 0x2e && Bool·beq b q
+proper-code q c (fullStop b) = eqb c the-stop && Bool·beq b q
 proper-code q c comma = true
 proper-code q c hyphen = true
 proper-code q c dash = true
-proper-code q c fractionBar = eqb c 0x2044
+proper-code q c fractionBar = eqb c the-bar
 proper-code q c (ordinal b) = true
 proper-code q c (pairMark k b w) = true
 proper-code q c (percent w) = true
@@ -212,12 +212,12 @@ silent-item q p f c (letter d true) e t = absurd (silent-lead p capital f e refl
 silent-item q p f c (letter d false) e t = absurd (silent-lead p _ f e (lead-letter (isDigitCell d)))
 silent-item q p f c (digit d) e t = absurd (silent-lead p _ f e (lead-digit (eqb d 1)))
 silent-item q p f c (fullStop b) e t =
-    ap (λ (k : ℕ). (k, fullStop b) ∷ []) (eqb→eq c 0x2e (and-left (eqb c 0x2e) (Bool·beq b q) t))
-    ∙ ap (λ (x : Bool). (0x2e, fullStop x) ∷ []) (beq-same b q (and-right (eqb c 0x2e) (Bool·beq b q) t))
+    ap (λ (k : ℕ). (k, fullStop b) ∷ []) (eqb→eq c the-stop (and-left (eqb c the-stop) (Bool·beq b q) t))
+    ∙ ap (λ (x : Bool). (the-stop, fullStop x) ∷ []) (beq-same b q (and-right (eqb c the-stop) (Bool·beq b q) t))
 silent-item q p f c comma e t = absurd (silent-lead p aComma f e refl)
 silent-item q p f c hyphen e t = absurd (silent-lead p aHyphen f e refl)
 silent-item q p f c dash e t = absurd (silent-lead p aDash f e refl)
-silent-item q p f c fractionBar e t = ap (λ (k : ℕ). (k, fractionBar) ∷ []) (eqb→eq c 0x2044 t)
+silent-item q p f c fractionBar e t = ap (λ (k : ℕ). (k, fractionBar) ∷ []) (eqb→eq c the-bar t)
 silent-item q p f c (ordinal true) e t = absurd (silent-lead p feminine f e refl)
 silent-item q p f c (ordinal false) e t = absurd (silent-lead p masculine f e refl)
 silent-item q p f c (pairMark k b w) e t = absurd (silent-lead p otherSign f e refl)
@@ -327,8 +327,8 @@ place q p o separated i a ss n k h r = place-one p o separated i a ss n k h r
 place q p o firstDigit i a ss n k h r = place-one p o firstDigit i a ss n k h r
 place q p o firstLower i a ss n k h r = place-one p o firstLower i a ss n k h r
 place q p o lower i a ss n k h r = place-one p o lower i a ss n k h r
-place q p o denominator i a ss n k h r = place-two p o denominator (0x2044, fractionBar) i a ss n tt refl k h r
-place q p o ordinalMark i a ss n k h r = place-two p o ordinalMark (0x2e, fullStop q) i a ss n tt refl k h r
+place q p o denominator i a ss n k h r = place-two p o denominator (the-bar, fractionBar) i a ss n tt refl k h r
+place q p o ordinalMark i a ss n k h r = place-two p o ordinalMark (the-stop, fullStop q) i a ss n tt refl k h r
 place q p o inside i a ss n k h r = place-one p o inside i a ss n k h r
 
 pub texts : (q : Bool) (m : Mode) (o : Opens) (ss : List Piece) → Runs m o ss → Rest m o (items q ss) ss
@@ -368,13 +368,13 @@ wait-silent : (q : Bool) (p : Past) (f : Future) (c : ℕ) (s : Sort) → rule p
 wait-silent q p f c s e t = go (lead-class (class s)) (silent-item q p f c s e t)
   where
     go : (n : ℕ) → _≡_ {A = List Item} ((c, s) ∷ []) (due q n) → wait-text n ≡ c ∷ []
-    go n h = code-of n (eqb n 0x2044) refl (eqb n 0x2e) refl (ap (map (λ (i : Item). i .0)) h)
+    go n h = code-of n (eqb n the-bar) refl (eqb n the-stop) refl (ap (map (λ (i : Item). i .0)) h)
       where
-        code-of : (n : ℕ) (x : Bool) → eqb n 0x2044 ≡ x → (y : Bool) → eqb n 0x2e ≡ y
-            → _≡_ {A = List ℕ} (c ∷ []) (map (λ (i : Item). i .0) (cond x ((0x2044, fractionBar) ∷ []) (cond y ((0x2e, fullStop q) ∷ []) [])))
+        code-of : (n : ℕ) (x : Bool) → eqb n the-bar ≡ x → (y : Bool) → eqb n the-stop ≡ y
+            → _≡_ {A = List ℕ} (c ∷ []) (map (λ (i : Item). i .0) (cond x ((the-bar, fractionBar) ∷ []) (cond y ((the-stop, fullStop q) ∷ []) [])))
             → wait-text n ≡ c ∷ []
-        code-of n true ex y ey h = ap wait-text (eqb→eq n 0x2044 (subst T (sym ex) tt)) ∙ sym h
-        code-of n false ex true ey h = ap wait-text (eqb→eq n 0x2e (subst T (sym ey) tt)) ∙ sym h
+        code-of n true ex y ey h = ap wait-text (eqb→eq n the-bar (subst T (sym ex) tt)) ∙ sym h
+        code-of n false ex true ey h = ap wait-text (eqb→eq n the-stop (subst T (sym ey) tt)) ∙ sym h
         code-of n false ex false ey h = let z : _≡_ {A = ℕ} 0 1 = cc in absurd (omega arith)
 
 signs-put : (q : Bool) (p : Past) (i : Item) (f : Future) (x : Outcome) → rule p (classAt i) f ≡ x → Passes x → T (proper-code q (i .0) (i .1))

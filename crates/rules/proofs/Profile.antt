@@ -21,7 +21,7 @@ use Rattle.rules.proofs.Finite.{nothing, every, every3, at3, and-left, 
 use Rattle.rules.proofs.States.{Past, free, Mode, Free}
 use Rattle.rules.proofs.Sides.{row-on, rule, after, future}
 use Rattle.rules.proofs.Enumerations.{classes, ways, modes, way-same}
-use Rattle.rules.proofs.Machine.{_by_, step, at-rest, mode-at, waiting, lead-of, ready}
+use Rattle.rules.proofs.Machine.{the-bar, the-stop, _by_, step, at-rest, mode-at, waiting, lead-of, ready}
 use Rattle.rules.proofs.Places.{past}
 use Rattle.rules.proofs.Rows.{verdict-is, whole-row, reads-good, good-reads}
 use Rattle.rules.proofs.Pairs.{kinds-known}
@@ -140,8 +140,8 @@ pub record Sane (tb : Table) : Type 0 where
   -- does the full stop share its cell with an apostrophe
   pub shares : Bool
   pub codes : T (every (λ (i : Item). proper-code shares (i .0) (i .1)) tb)
-  pub has-stop : sortIn tb 0x2e ≡ fullStop shares
-  pub has-bar : sortIn tb 0x2044 ≡ fractionBar
+  pub has-stop : sortIn tb the-stop ≡ fullStop shares
+  pub has-bar : sortIn tb the-bar ≡ fractionBar
   -- what normalising replaces, digits and ordinals
   pub normal : T (normal-codes tb)
   -- every mark is of a kind that is counted
@@ -255,14 +255,14 @@ module _ (tb : Table) (sane : Sane tb) where
   same-due : (n : ℕ) (i : Item) (a : List Item) → itemIn tb (i .0) ≡ i → recoded a ≡ a
       → recoded (due (sane .shares) n ++ i ∷ a) ≡ due (sane .shares) n ++ i ∷ a
   unfolding itemIn
-  same-due n i a e ih = go (eqb n 0x2044) (eqb n 0x2e)
+  same-due n i a e ih = go (eqb n the-bar) (eqb n the-stop)
     where
       waits : Bool → Bool → List Item
-      waits b c = cond b ((0x2044, fractionBar) ∷ []) (cond c ((0x2e, fullStop (sane .shares)) ∷ []) [])
+      waits b c = cond b ((the-bar, fractionBar) ∷ []) (cond c ((the-stop, fullStop (sane .shares)) ∷ []) [])
 
       go : (b c : Bool) → recoded (waits b c ++ i ∷ a) ≡ waits b c ++ i ∷ a
-      go true c = same-cons (0x2044, fractionBar) (i ∷ a) (ap (λ (x : Sort). (0x2044, x)) (sane .has-bar)) (same-cons i a e ih)
-      go false true = same-cons (0x2e, fullStop (sane .shares)) (i ∷ a) (ap (λ (x : Sort). (0x2e, x)) (sane .has-stop)) (same-cons i a e ih)
+      go true c = same-cons (the-bar, fractionBar) (i ∷ a) (ap (λ (x : Sort). (the-bar, x)) (sane .has-bar)) (same-cons i a e ih)
+      go false true = same-cons (the-stop, fullStop (sane .shares)) (i ∷ a) (ap (λ (x : Sort). (the-stop, x)) (sane .has-stop)) (same-cons i a e ih)
       go false false = same-cons i a e ih
 
   same-items : (ss : List Piece) → AllIn ss (all-pieces tb) → itemsIn tb (print-of (sane .shares) ss) ≡ items (sane .shares) ss

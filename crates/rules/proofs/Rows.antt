@@ -1,5 +1,5 @@
 -- Rows and verdicts, place by place: the laws of specs/Rows.antt, for any table. The row is that of the finite rules where the verdict is good
--- (`row-when-good`). The verdict from a place on is the first fault from there, or the text's end (`verdict-first`): at each place either
+-- (`row-when-good`). The verdict from a place on is the first fault from there, or the text's end (`verdict-says`): at each place either
 -- a fault is found, or the rest decides. Assumes nothing.
 use mathlib.Core.Path.{_≡_, refl, sym, _∙_, ap, subst}
 use mathlib.Core.Logic.{_⊎_, inl, inr, ⊎-elim}
@@ -22,9 +22,9 @@ use Rattle.rules.proofs.States.{free}
 use Rattle.rules.proofs.Sides.{outcome-cells, row-on, verdict-on}
 use Rattle.rules.proofs.Places.{past, past-of, outcome-at, found, faulty-found, found-faulty}
 
--- no verdict is both
-pub not-both : {B : Type 0} {c : Cause} {n : ℕ} → bad c n ≡ good → B
-not-both e = let z : _≡_ {A = ℕ} 0 1 = cc in absurd (omega arith)
+-- no verdict is bad and good
+pub bad-not-good : {B : Type 0} {c : Cause} {n : ℕ} → bad c n ≡ good → B
+bad-not-good e = let z : _≡_ {A = ℕ} 0 1 = cc in absurd (omega arith)
 
 -- THE ROW: the finite rules' where the verdict is good, and none elsewhere
 pub verdict-is : (b : List Item) (n : ℕ) (a : List Item) → verdictFrom b n a ≡ verdict-on (past-of b) (openAfter b) n a

@@ -16,7 +16,7 @@ use Rattle.rules.specs.Signs.{Way, denominator, ordinalMark, Sign, print
 use Rattle.rules.specs.Rows.{Reads, signsOf}
 use Rattle.rules.specs.Demands.{ThreeCellsEach, CellForEachSign, OneOrTwoPoints, SignsJoin}
 use Rattle.rules.proofs.Finite.{every, and-left, and-right, and-both}
-use Rattle.rules.proofs.Machine.{_by_, lead-of}
+use Rattle.rules.proofs.Machine.{the-bar, the-stop, _by_, lead-of}
 use Rattle.rules.proofs.Pieces.{Piece, word, words, due, lead, items, wait-text, sign-of}
 use Rattle.rules.proofs.Reader.{every-in, all-pieces, all-begin-in, begins, AllIn}
 use Rattle.rules.proofs.Profile.{Sane, proper-word, print-of, OfText, of-text, pieces-of}
@@ -29,7 +29,7 @@ lead-print : (q : Bool) (w : Way) → code-points (lead q w) ≡ wait-text (lead
 unfolding lead lead-of
 lead-print q w = go (w by denominator) (w by ordinalMark)
   where
-    go : (x y : Bool) → code-points (due q (cond x 0x2044 (cond y 0x2e 0))) ≡ wait-text (cond x 0x2044 (cond y 0x2e 0))
+    go : (x y : Bool) → code-points (due q (cond x the-bar (cond y the-stop 0))) ≡ wait-text (cond x the-bar (cond y the-stop 0))
     go true y = refl
     go false true = refl
     go false false = refl
@@ -53,8 +53,8 @@ unfolding lead-of
 points-signs [] = tt
 points-signs (s ∷ ss) = (go (s .0 by denominator) (s .0 by ordinalMark), points-signs ss)
   where
-    go : (x y : Bool) → (length (wait-text (cond x 0x2044 (cond y 0x2e 0)) ++ s .1 .0 ∷ []) ≡ 1)
-        ⊎ (length (wait-text (cond x 0x2044 (cond y 0x2e 0)) ++ s .1 .0 ∷ []) ≡ 2)
+    go : (x y : Bool) → (length (wait-text (cond x the-bar (cond y the-stop 0)) ++ s .1 .0 ∷ []) ≡ 1)
+        ⊎ (length (wait-text (cond x the-bar (cond y the-stop 0)) ++ s .1 .0 ∷ []) ≡ 2)
     go true y = inr refl
     go false true = inr refl
     go false false = inl refl

@@ -22,12 +22,14 @@ isDigitPoint c = leb (code "0") c && leb c (code "9")
 unfoldable pub isOrdinalPoint : ℕ → Bool
 isOrdinalPoint c = eqb c (code "º") || eqb c (code "ª")
 
--- "º or ª directly after a digit gets a full stop before it." The first argument: a digit stands directly before.
+-- What a code point becomes; the first argument: a digit stands directly before. "º or ª directly after a digit gets a full stop before it."
+abbrev pub becomes : Bool → ℕ → Text
+becomes d c = cond (d && isOrdinalPoint c) (code "." ∷ c ∷ []) (replacedBy replacements c)
+
 unfoldable pub normalAfter : Bool → Text → Text
 unfolding replacements replacedBy isDigitPoint isOrdinalPoint
 normalAfter d [] = []
-normalAfter d (c ∷ t) =
-    cond (d && isOrdinalPoint c) (code "." ∷ c ∷ []) (replacedBy replacements c) ++ normalAfter (isDigitPoint c) t
+normalAfter d (c ∷ t) = becomes d c ++ normalAfter (isDigitPoint c) t
 
 unfoldable pub normalOf : Text → Text
 unfolding normalAfter

@@ -1,5 +1,5 @@
--- The row of a text (paper 01, "The signs" to "Pairs"), and what goes with it. In order: a text's code points in a profile's table; its row; its
--- faults and the verdict; its signs; what reading must meet. Assumes nothing.
+-- The row of a text (paper 01, "The signs" to "Pairs"), and what goes with it. In order: a text's code points in a profile's table; its row, and
+-- what reading must meet; its faults; the verdict; its signs. Assumes nothing.
 use mathlib.Core.Bool.{Bool, true, false, not, cond}
 use mathlib.Core.List.{List, [], _∷_, _++_, map, reverse}
 use mathlib.Core.Option.{Option, none, some}
