@@ -105,8 +105,8 @@ module _ (tb : Table) where
           → PrintAnswer tb p room (by-verdict v (whole-row tb (normalOf p)) room)
       short l good h e =
           ⊎-elim
-          (λ k. subst (PrintAnswer tb p room) (sym (choose-le _ _ _ _ k)) (transcribed _ l (good-reads tb (normalOf p) e) k))
-          (λ k. subst (PrintAnswer tb p room) (sym (choose-lt _ _ _ _ k)) (print-refused _ (row-needs-room _ l (good-reads tb (normalOf p) e) k)))
+          (λ k. subst (PrintAnswer tb p room) (sym (choose-le _ _ _ _ k)) (transcribed (whole-row tb (normalOf p)) l (good-reads tb (normalOf p) e) k))
+          (λ k. subst (PrintAnswer tb p room) (sym (choose-lt _ _ _ _ k)) (print-refused _ (row-needs-room (whole-row tb (normalOf p)) l (good-reads tb (normalOf p) e) k)))
           (le-or-lt (length (whole-row tb (normalOf p))) room)
       short l (bad c n) (inl f) e = print-refused _ (refused-by (normalOf p) room n c l f)
       short l (bad c n) (inr f) e =
