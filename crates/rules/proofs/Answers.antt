@@ -46,7 +46,7 @@ choose-lt m n x y l = go (leb m n) refl
     go false e = refl
 
 -- PRINT. The verdict is the first fault, or that something is left open.
-abbrev by-verdict : Verdict → Row → ℕ → Answer
+abbrev pub by-verdict : Verdict → Row → ℕ → Answer
 by-verdict good r room = choose (length r) room (gives r) (refuses (needsRoom (length r)))
 by-verdict (bad c n) r room = refuses (atFault c n)
 
@@ -114,7 +114,7 @@ module _ (tb : Table) where
           (subst (λ (m : ℕ). PrintAnswer tb p room (refuses (atFault breaksPair m))) (sym (f .1)) (print-refused _ (left-open l (f .2) (f .3))))
 
   -- a short text's answer is by its verdict
-  short-answer : (p : Text) (room : ℕ) (v : Verdict) → length (normalOf p) ≤ longestText → verdictOf tb (normalOf p) ≡ v
+  pub short-answer : (p : Text) (room : ℕ) (v : Verdict) → length (normalOf p) ≤ longestText → verdictOf tb (normalOf p) ≡ v
       → answer p room ≡ by-verdict v (whole-row tb (normalOf p)) room
   unfolding answer
   short-answer p room v l e =

@@ -183,6 +183,31 @@ pub normal-length : NormalLength
 unfolding normalOf
 normal-length t = length-after false t
 
+-- and none becomes nothing: the normalised print is at least as long
+some-becomes : (d : Bool) (c : ℕ) → 1 ≤ length (becomes d c)
+some-becomes d c = go (d && isOrdinalPoint c)
+  where
+    some-length : (w : Text) → T (not-empty w) → 1 ≤ length w
+    some-length [] t = absurd t
+    some-length (x ∷ w) t = omega arith
+
+    go : (b : Bool) → 1 ≤ length (cond b (code "." ∷ c ∷ []) (replacedBy replacements c))
+    go true = omega arith
+    go false =
+        ⊎-elim (λ k. omega (arith, ap length (kept-same replacements c k)))
+        (λ h. omega (arith, ap length (h .2), some-length (print (h .0 .1)) (hold (facts (h .0)) (h .3) .1 .1 .0))) (kept-or-replaced c)
+
+longer-after : (d : Bool) (t : Text) → length t ≤ length (normalAfter d t)
+unfolding normalAfter
+longer-after d [] = omega arith
+longer-after d (c ∷ t) =
+    omega
+    (arith, length-append (becomes d c) (normalAfter (isDigitPoint c) t), some-becomes d c, longer-after (isDigitPoint c) t)
+
+pub normal-longer : (t : Text) → length t ≤ length (normalOf t)
+unfolding normalOf
+normal-longer t = longer-after false t
+
 -- WHAT IS ACCEPTED IS NORMAL. A table's test: what is replaced has no sign in it, the digits are digits, º and ª ordinals.
 upto : ℕ → List ℕ
 upto zero = []
