@@ -1,0 +1,55 @@
+-- The fields of a word: one test of every sort of a sign list, and the law that it gives at each code point. Assumes nothing.
+use mathlib.Core.Path.{_≡_}
+use mathlib.Core.Bool.{Bool}
+use mathlib.Core.List.{List, [], _∷_}
+use Prim.Native.Nat.{ℕ, _<_}
+use lib.Dec.{T, eqb, ltb, eqb→eq, ltb→lt}
+use Rattle.rules.specs.Cells.{dots}
+use Rattle.rules.specs.Sorts.{Sort, noSign, Item, Table, class, classNumber, isDigitCell}
+use Rattle.rules.specs.Signs.{ownCells, lowerCells}
+use Rattle.rules.specs.Pairs.{kinds, markOf}
+use Rattle.rules.specs.Rows.{sortIn}
+use Rattle.rules.specs.Castilian.{castilian}
+use Rattle.rules.proofs.Finite.{every, holds, Hold, hold}
+use Rattle.entries.specs.States.{states}
+use Rattle.entries.specs.Entries.{classIn, markIn, thenIn, oddIn, thenOf, oddStates, bits, markNumber, word, entryOf}
+use Rattle.entries.proofs.Keys.{at-every}
+
+-- the marks are those of the kinds that there are
+abbrev pub marks : ℕ
+marks = 11
+
+facts : Sort → List Bool
+facts s =
+    eqb (classIn (word s)) (classNumber (class s))
+    ∷ eqb (markIn (word s)) (markNumber (markOf s))
+    ∷ ltb (markIn (word s)) marks
+    ∷ eqb (thenIn (word s)) (thenOf (class s))
+    ∷ eqb (oddIn (word s)) (bits (oddStates (class s)))
+    ∷ []
+
+-- a table whose words have their fields
+pub record Worded (tb : Table) : Type 0 where
+  pub class-is : (c : ℕ) → classIn (entryOf tb c) ≡ classNumber (class (sortIn tb c))
+  pub mark-is : (c : ℕ) → markIn (entryOf tb c) ≡ markNumber (markOf (sortIn tb c))
+  pub mark-small : (c : ℕ) → markIn (entryOf tb c) < marks
+  pub then-is : (c : ℕ) → thenIn (entryOf tb c) ≡ thenOf (class (sortIn tb c))
+  pub odd-is : (c : ℕ) → oddIn (entryOf tb c) ≡ bits (oddStates (class (sortIn tb c)))
+
+tested : (c : ℕ) → T (holds (facts (sortIn castilian c)))
+unfolding facts word thenOf oddStates bits markNumber castilian class isDigitCell ownCells lowerCells markOf dots
+tested c = at-every (λ s. holds (facts s)) castilian tt tt c
+
+at : (c : ℕ) → Hold (facts (sortIn castilian c))
+at c = hold (facts (sortIn castilian c)) (tested c)
+
+pub worded : Worded castilian
+unfolding facts entryOf
+worded =
+    record {
+      class-is = λ c. eqb→eq (classIn (entryOf castilian c)) (classNumber (class (sortIn castilian c))) (at c .0);
+      mark-is = λ c. eqb→eq (markIn (entryOf castilian c)) (markNumber (markOf (sortIn castilian c))) (at c .1 .0);
+      mark-small = λ c. ltb→lt (markIn (entryOf castilian c)) marks (at c .1 .1 .0);
+      then-is = λ c. eqb→eq (thenIn (entryOf castilian c)) (thenOf (class (sortIn castilian c))) (at c .1 .1 .1 .0);
+      odd-is = λ c. eqb→eq (oddIn (entryOf castilian c)) (bits (oddStates (class (sortIn castilian c)))) (at c .1 .1 .1 .1 .0);
+    }

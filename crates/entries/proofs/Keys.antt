@@ -1,0 +1,65 @@
+-- Looking up in a sign list. In order: what the `_` arm of a look-up knows; a test of every entry holds at whatever is looked up; a code point
+-- that is no key has no sign. Assumes nothing.
+use mathlib.Core.Path.{_≡_, refl, sym, ap, _∙_, subst}
+use mathlib.Core.Logic.{_⊎_, inl, inr, ⊎-elim}
+use mathlib.Core.Bool.{Bool, true, false, _&&_, _||_}
+use mathlib.Core.List.{List, [], _∷_}
+use Prim.Native.Nat.{ℕ}
+use lib.Dec.{T, eqb, eqb→eq}
+use borrow.Author.Tests.{ne-eqb}
+use Rattle.rules.specs.Sorts.{Sort, noSign, Item, Table}
+use Rattle.rules.specs.Rows.{sortIn}
+use Rattle.rules.specs.Castilian.{castilian}
+use Rattle.rules.proofs.Finite.{every, and-left, and-right}
+use Rattle.entries.specs.Entries.{entryOf, word}
+
+abbrev pub among : List ℕ → ℕ → Bool
+among [] c = false
+among (k ∷ ks) c = eqb c k || among ks c
+
+-- what the `_` arm of a `match` on a number knows: that it is none of the keys
+abbrev pub Rest : Type 0 → List ℕ → ℕ → Type 0
+Rest A [] c = A
+Rest A (k ∷ ks) c = Rest (A × (c ≡ k → ⊥)) ks c
+
+pub rest-none : (A : Type 0) (ks : List ℕ) (c : ℕ) → Rest A ks c → A × (among ks c ≡ false)
+rest-none A [] c r = (r, refl)
+rest-none A (k ∷ ks) c r =
+    let i = rest-none (A × (c ≡ k → ⊥)) ks c r in
+    (i .0 .0, rw (ne-eqb c k (i .0 .1)) (i .1))
+
+-- A test of code point and sort that every entry passes: it holds at c, or c has no sign.
+pub hit : (f : ℕ → Sort → Bool) (tb : Table) → T (every (λ (i : Item). f (i .0) (i .1)) tb) → (c : ℕ) → T (f c (sortIn tb c)) ⊎ (sortIn tb c ≡ noSign)
+unfolding sortIn
+hit f [] t c = inr refl
+hit f (i ∷ tb) t c = go (eqb (i .0) c) refl (hit f tb (and-right (f (i .0) (i .1)) (every (λ (i : Item). f (i .0) (i .1)) tb) t) c)
+  where
+    go : (b : Bool) → eqb (i .0) c ≡ b → T (f c (sortIn tb c)) ⊎ (sortIn tb c ≡ noSign)
+        → T (f c (elim b as (λ _. Sort) [ true ↦ i .1 | false ↦ sortIn tb c ]))
+        ⊎ (_≡_ {A = Sort} (elim b as (λ _. Sort) [ true ↦ i .1 | false ↦ sortIn tb c ]) noSign)
+    go true q ih =
+        inl (subst (λ (k : ℕ). T (f k (i .1))) (eqb→eq (i .0) c (rw q tt)) (and-left (f (i .0) (i .1)) (every (λ (i : Item). f (i .0) (i .1)) tb) t))
+    go false q ih = ih
+
+-- a test of the sort alone, which holds without a sign too: it holds at every code point
+pub at-every : (f : Sort → Bool) (tb : Table) → T (f noSign) → T (every (λ (i : Item). f (i .1)) tb) → (c : ℕ) → T (f (sortIn tb c))
+at-every f tb none t c = ⊎-elim (λ h. h) (λ e. subst (λ (s : Sort). T (f s)) (sym e) none) (hit (λ k s. f s) tb t c)
+
+-- A CODE POINT THAT IS NO KEY. A test that every key of the list passes, and c does not
+absent : (tb : Table) (f : ℕ → Bool) (c : ℕ) → T (every (λ (i : Item). f (i .0)) tb) → f c ≡ false → sortIn tb c ≡ noSign
+unfolding sortIn
+absent [] f c t e = refl
+absent (i ∷ tb) f c t e =
+    go (eqb (i .0) c) refl (absent tb f c (and-right (f (i .0)) (every (λ (i : Item). f (i .0)) tb) t) e)
+  where
+    go : (b : Bool) → eqb (i .0) c ≡ b → sortIn tb c ≡ noSign → _≡_ {A = Sort} (elim b as (λ _. Sort) [ true ↦ i .1 | false ↦ sortIn tb c ]) noSign
+    go true q ih =
+        let w : f (i .0) ≡ false = ap f (eqb→eq (i .0) c (rw q tt)) ∙ e in
+        absurd (rw w at (and-left (f (i .0)) (every (λ (i : Item). f (i .0)) tb) t))
+    go false q ih = ih
+
+-- The keys of one side of a bound: those of the other side pass `beyond`.
+pub none-of : (beyond : ℕ → Bool) (ks : List ℕ) (c : ℕ) → T (every (λ (i : Item). beyond (i .0) || among ks (i .0)) castilian)
+    → beyond c ≡ false → among ks c ≡ false → word noSign ≡ entryOf castilian c
+unfolding entryOf
+none-of beyond ks c t a b = sym (ap word (absent castilian (λ k. beyond k || among ks k) c t (rw (a, b))))

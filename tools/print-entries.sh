@@ -1,0 +1,199 @@
+#!/bin/sh
+# prints: crates/entries/src/list.rt
+#
+# The sign list as code: the word of each code point by its fields, and the two look-ups. The signs and their cells are read
+# from the definitions (tools/sign-list.awk), so a new sign is a line of crates/rules/specs/Castilian.antt. What is the same
+# for every list, as what each class is, stands below as text.
+#
+# Nothing printed is trusted: the prover compares the word of each code point with the rules.
+set -eu
+CDPATH='' cd "$(dirname "$0")/.."
+
+# Bytes and not characters, so that every awk prints the same.
+LC_ALL=C
+export LC_ALL
+
+signs=$(awk -f tools/sign-list.awk)
+
+cat <<'TEXT'
+// Printed by tools/print-entries.sh from crates/rules/specs/Castilian.antt: change that, and print it again.
+// The sign list: the word of each code point, by its fields. The check compares each with the rules.
+use crate::A_TO_J;
+use crate::BAR;
+use crate::BARRED;
+use crate::CAPITAL;
+use crate::CAPITALS;
+use crate::COMMA;
+use crate::COUNT;
+use crate::DASH;
+use crate::DASHED;
+use crate::FEMININE;
+use crate::FIRST;
+use crate::FREE;
+use crate::FULL_STOP;
+use crate::GUARDED;
+use crate::HYPHEN;
+use crate::HYPHENED;
+use crate::LOWER;
+use crate::LOWERED;
+use crate::MARK;
+use crate::MASCULINE;
+use crate::MIXED;
+use crate::NUMBER;
+use crate::ODD;
+use crate::ONE;
+use crate::ORDINAL;
+use crate::OTHER_DIGIT;
+use crate::OTHER_SIGN;
+use crate::OTHER_SMALL;
+use crate::PERCENT;
+use crate::SECOND;
+use crate::THEN;
+use crate::THIRD;
+use crate::UNDER;
+use crate::UNLISTED;
+ghost use mathlib.Core.Path.{_≡_};
+ghost use Prim.Native.Nat.{_<_, _≤_};
+ghost use Rattle.rules.specs.Castilian.{castilian};
+ghost use Rattle.entries.specs.Entries.{entryOf};
+
+// The cells, by their dots.
+TEXT
+
+# The cells that are used: dot d counts 2 to the d - 1.
+printf '%s\n' "$signs" | awk -F '\t' '
+{
+    count = split($5 "-" $6, cell, "-")
+    for (i = 1; i <= count; i++) if (cell[i] != "none") print cell[i]
+}' | sort -n -u | awk '
+{
+    value = 0
+    for (d = 1; d <= 6; d++) if (index($0, d)) value += 2 ^ (d - 1)
+    print "const D" $0 ": u64 = " value ";"
+    print ""
+}'
+
+cat <<'TEXT'
+// The bit of a state, and those of all.
+const IN_NUMBER: u64 = ODD << NUMBER;
+
+const IN_LOWERED: u64 = ODD << LOWERED;
+
+const IN_UNDER: u64 = ODD << UNDER;
+
+const IN_GUARDED: u64 = ODD << GUARDED;
+
+const IN_HYPHENED: u64 = ODD << HYPHENED;
+
+const IN_DASHED: u64 = ODD << DASHED;
+
+const IN_CAPITALS: u64 = ODD << CAPITALS;
+
+const IN_ANY: u64 = (ODD << FREE)
+    + IN_CAPITALS
+    + (ODD << MIXED)
+    + IN_NUMBER
+    + IN_LOWERED
+    + (ODD << ORDINAL)
+    + (ODD << BARRED)
+    + IN_UNDER
+    + IN_GUARDED
+    + IN_HYPHENED
+    + IN_DASHED;
+
+// What a class is: its number, the state after it where it is written as usual, and the states in which it is not.
+const AS_A_TO_J: u64 = A_TO_J as u64 + THEN * MIXED as u64 + IN_NUMBER + IN_UNDER + IN_GUARDED;
+
+const AS_OTHER_SMALL: u64 = OTHER_SMALL as u64 + THEN * MIXED as u64;
+
+const AS_CAPITAL: u64 = CAPITAL as u64 + THEN * CAPITALS as u64 + IN_ANY - IN_CAPITALS;
+
+const AS_ONE: u64 = ONE as u64 + THEN * NUMBER as u64 + IN_ANY - IN_NUMBER;
+
+const AS_OTHER_DIGIT: u64 = OTHER_DIGIT as u64 + THEN * NUMBER as u64 + IN_ANY - IN_NUMBER;
+
+const AS_FULL_STOP: u64 = FULL_STOP as u64 + THEN * FREE as u64 + IN_NUMBER + IN_LOWERED;
+
+const AS_COMMA: u64 = COMMA as u64 + THEN * FREE as u64 + IN_NUMBER;
+
+const AS_HYPHEN: u64 = HYPHEN as u64 + THEN * HYPHENED as u64 + IN_HYPHENED + IN_DASHED;
+
+const AS_DASH: u64 = DASH as u64 + THEN * DASHED as u64 + IN_HYPHENED;
+
+const AS_BAR: u64 = BAR as u64 + THEN * BARRED as u64 + IN_ANY;
+
+const AS_MASCULINE: u64 = MASCULINE as u64 + THEN * FREE as u64 + IN_ANY;
+
+const AS_FEMININE: u64 = FEMININE as u64 + THEN * GUARDED as u64 + IN_ANY;
+
+const AS_PERCENT: u64 = PERCENT as u64 + THEN * FREE as u64;
+
+const AS_OTHER_SIGN: u64 = OTHER_SIGN as u64 + THEN * FREE as u64;
+
+const AS_UNLISTED: u64 = UNLISTED as u64 + THEN * FREE as u64 + IN_ANY;
+
+// A pair mark of kind 0; of kind k, MARK * 2 * k more.
+const OPENER: u64 = MARK;
+
+const CLOSER: u64 = MARK * 2;
+
+// The code points of the list.
+TEXT
+
+# The word of each: on one line where its code has at most 100 columns, and otherwise a line for each field.
+printf '%s\n' "$signs" | awk -F '\t' '
+{
+    word = "AS_" $4
+    cells = $5 == "none" ? 0 : split($5, cell, "-")
+    if (cells) word = word "|COUNT * " cells "|FIRST * D" cell[1]
+    if (cells > 1) word = word "|SECOND * D" cell[2]
+    if (cells > 2) word = word "|THIRD * D" cell[3]
+    if ($6 != "none") word = word "|LOWER * D" $6
+    if ($7 != "none") word = word "|" $7
+    if ($8 > 0) word = word "|MARK * 2 * " $8
+
+    line = word
+    gsub(/[|]/, " + ", line)
+    line = "const " $1 ": u64 = " line ";"
+    if (length(line) > 100) {
+        line = word
+        gsub(/[|]/, "\n    + ", line)
+        line = "const " $1 ": u64 = " line ";"
+    }
+    print line " // " $9
+    print ""
+}'
+
+# The arms of the look-up of one part.
+arms() { # PART
+    printf '%s\n' "$signs" | awk -F '\t' -v part="$1" '
+    $3 == part { print "        " $2 " => " $1 ", // " $9 }'
+}
+
+cat <<'TEXT'
+// A code point below 256.
+pub fn low(point: u32) -> u64
+    requires { ⌜ point < 256 ⌝ }
+    ensures { λ r. ⌜ r ≡ entryOf castilian point ⌝ }
+{
+    match point {
+TEXT
+arms low
+cat <<'TEXT'
+        _ => AS_UNLISTED,
+    }
+}
+
+// A code point from 256 on.
+pub fn far(point: u32) -> u64
+    requires { ⌜ 256 ≤ point ⌝ }
+    ensures { λ r. ⌜ r ≡ entryOf castilian point ⌝ }
+{
+    match point {
+TEXT
+arms far
+cat <<'TEXT'
+        _ => AS_UNLISTED,
+    }
+}
+TEXT
