@@ -1,0 +1,93 @@
+-- What stands from a place on, as reading ahead finds it: each law is one test over class and future, moved to a place of a text. A place past the
+-- end has code point 0, which has no sign, so that no law asks for the text's length. For any table in which 0 has none. Assumes nothing.
+use mathlib.Core.Path.{_≡_, refl, sym, ap, _∙_}
+use mathlib.Core.Bool.{Bool, true, false, _&&_, _||_, not, cond, Bool·beq}
+use mathlib.Core.List.{List, [], _∷_}
+use Prim.Native.Nat.{ℕ, zero, suc, _+_, _≤_}
+use native.Mathlib.Numerals.{add-one}
+use lib.Dec.{T, eqb}
+use lib.ListN.{length, drop, getD, drop-of-length-le}
+use Rattle.rules.specs.Sorts.{Table, Class, unlisted, aStop, aBar, class, _is_, isDigit, isOrdinal}
+use Rattle.rules.specs.Rows.{sortIn, itemIn, itemsIn}
+use Rattle.rules.specs.Castilian.{castilian}
+use Rattle.rules.proofs.Finite.{every2, at2, beq-same, implies}
+use Rattle.rules.proofs.States.{Future, rest}
+use Rattle.rules.proofs.Enumerations.{classes, futures}
+use Rattle.rules.proofs.Sides.{caps-next, mixed-next, form-next, digit-next, mark-next, look, future}
+use Rattle.turns.specs.Stages.{isSmall, isCapital, classAt, futureAt, endsForm}
+
+-- a fact of the future by what stands at the place and the future behind it
+seen : (g : Future → Bool) (h : Class → Future → Bool) → T (every2 classes futures (λ c f. Bool·beq (g (look c f)) (h c f))) → (c : Class) (f : Future)
+    → g (look c f) ≡ h c f
+seen g h t c f = beq-same (g (look c f)) (h c f) (at2 classes futures (λ c f. Bool·beq (g (look c f)) (h c f)) t c f)
+
+-- the same where the place's class passes a test
+seen-where : (k : Class → Bool) (g : Future → Bool) (h : Class → Future → Bool)
+    → T (every2 classes futures (λ c f. not (k c) || Bool·beq (g (look c f)) (h c f))) → (c : Class) (f : Future) → k c ≡ true → g (look c f) ≡ h c f
+seen-where k g h t c f e =
+    beq-same (g (look c f)) (h c f)
+    (implies (k c) (Bool·beq (g (look c f)) (h c f)) (rw e tt) (at2 classes futures (λ c f. not (k c) || Bool·beq (g (look c f)) (h c f)) t c f))
+
+-- the Castilian one is such a table
+pub zero-unlisted : class (sortIn castilian 0) ≡ unlisted
+unfolding castilian sortIn class
+zero-unlisted = refl
+
+module _ (tb : Table) (none-at-zero : class (sortIn tb 0) ≡ unlisted) where
+  step : (text : List ℕ) (i : ℕ) → futureAt tb text i ≡ look (classAt tb text i) (futureAt tb text (suc i))
+  unfolding futureAt future itemsIn itemIn look
+  step [] zero = sym (ap (λ (c : Class). look c rest) none-at-zero)
+  step [] (suc i) = sym (ap (λ (c : Class). look c rest) none-at-zero)
+  step (c ∷ t) zero = refl
+  step (c ∷ t) (suc i) = step t i
+
+  pub future-step : (text : List ℕ) (i : ℕ) → futureAt tb text i ≡ look (classAt tb text i) (futureAt tb text (i + 1))
+  future-step text i = rw add-one (step text i)
+
+  pub future-end : (text : List ℕ) (i : ℕ) → length text ≤ i → futureAt tb text i ≡ rest
+  unfolding futureAt future itemsIn
+  future-end text i h = rw (drop-of-length-le text h)
+
+  -- what stands directly there
+  pub digit-at : (text : List ℕ) (i : ℕ) → digit-next (futureAt tb text i) ≡ isDigit (classAt tb text i)
+  unfolding look
+  digit-at text i = ap digit-next (future-step text i) ∙ seen digit-next (λ c f. isDigit c) tt (classAt tb text i) (futureAt tb text (i + 1))
+
+  pub mark-at : (text : List ℕ) (i : ℕ) → mark-next (futureAt tb text i) ≡ isOrdinal (classAt tb text i)
+  unfolding look
+  mark-at text i = ap mark-next (future-step text i) ∙ seen mark-next (λ c f. isOrdinal c) tt (classAt tb text i) (futureAt tb text (i + 1))
+
+  -- a run: a capital leaves open whether a small letter follows; anything else decides it
+  pub small-on : (text : List ℕ) (i : ℕ) → isCapital (classAt tb text i) ≡ true → mixed-next (futureAt tb text i) ≡ mixed-next (futureAt tb text (i + 1))
+  unfolding look
+  small-on text i e =
+      ap mixed-next (future-step text i)
+      ∙ seen-where isCapital mixed-next (λ c f. mixed-next f) tt (classAt tb text i) (futureAt tb text (i + 1)) e
+
+  pub small-at : (text : List ℕ) (i : ℕ) → isCapital (classAt tb text i) ≡ false → mixed-next (futureAt tb text i) ≡ isSmall (classAt tb text i)
+  unfolding look
+  small-at text i e =
+      ap mixed-next (future-step text i)
+      ∙ seen-where (λ c. not (isCapital c)) mixed-next (λ c f. isSmall c) tt (classAt tb text i) (futureAt tb text (i + 1)) (ap not e)
+
+  pub capitals-at : (text : List ℕ) (i : ℕ) → caps-next (futureAt tb text i) ≡ isCapital (classAt tb text i) && not (mixed-next (futureAt tb text i))
+  unfolding look
+  capitals-at text i =
+      rw (future-step text i)
+      (seen caps-next (λ c f. isCapital c && not (mixed-next (look c f))) tt (classAt tb text i) (futureAt tb text (i + 1)))
+
+  -- a form: a digit leaves it open; anything else decides it, with what stands behind
+  pub form-on : (text : List ℕ) (i : ℕ) → isDigit (classAt tb text i) ≡ true → form-next (futureAt tb text i) ≡ form-next (futureAt tb text (i + 1))
+  unfolding look
+  form-on text i e =
+      ap form-next (future-step text i)
+      ∙ seen-where isDigit form-next (λ c f. form-next f) tt (classAt tb text i) (futureAt tb text (i + 1)) e
+
+  pub form-at : (text : List ℕ) (i : ℕ) → isDigit (classAt tb text i) ≡ false
+      → form-next (futureAt tb text i) ≡ endsForm tb (getD text i 0) (getD text (i + 1) 0)
+  unfolding look endsForm
+  form-at text i e =
+      ap form-next (future-step text i)
+      ∙ seen-where (λ c. not (isDigit c)) form-next (λ c f. cond (c is aStop) (mark-next f) (cond (c is aBar) (digit-next f) false)) tt
+      (classAt tb text i) (futureAt tb text (i + 1)) (ap not e)
+      ∙ rw (mark-at text (i + 1), digit-at text (i + 1))

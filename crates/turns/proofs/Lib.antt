@@ -1,0 +1,4 @@
+pub mod Places
+pub mod Points
+pub mod Ahead
+pub mod Machine

@@ -1,0 +1,27 @@
+-- `point_at`: past the end the default is 0. Assumes nothing.
+use mathlib.Core.Path.{_≡_, sym}
+use lib.ListN.{List·getD-eq-default}
+use borrow.Author.Needs.{needs}
+use Rattle.turns.proofs.point_at.Statement.{statement}
+use Rattle.turns.proofs.point_at.Tie as tie
+use Rattle.turns.proofs.point_at.Reads as reads
+use Rattle.turns.proofs.point_at.Lts as lts
+
+-- src/lib.rt:181:29
+mul-result : tie.Need-mul-result
+mul-result c = search needs
+
+-- src/lib.rt:181:29
+shared-slice-read-result : tie.Need-shared-slice-read-result
+shared-slice-read-result c = search needs
+
+-- src/lib.rt:178:1
+returns : tie.Need-returns
+returns c = search needs
+
+-- src/lib.rt:178:1
+returns-2 : tie.Need-returns-2
+returns-2 c = sym (List·getD-eq-default (c .before .args .text .now) _ (c .if1 .left))
+
+pub point-at-spec : {M : Type 1} → statement M
+point-at-spec = tie.close (tie.spec mul-result shared-slice-read-result returns returns-2)

@@ -1,0 +1,91 @@
+-- What the functions of this crate promise, in the rules' words. In order: what stands at and from a place of a text; the state of a place, from
+-- what stands before it and from it on; the deed there. Past, future and `rule` are those of the rules' proofs (crates/rules/proofs/Sides.antt):
+-- inner promises may speak of them, the public one does not. Assumes nothing.
+use mathlib.Core.Bool.{Bool, true, false, _||_, cond}
+use mathlib.Core.List.{List, [], _∷_}
+use Prim.Native.Nat.{ℕ, _+_, _*_}
+use lib.Dec.{eqb}
+use lib.ListN.{drop, getD}
+use Rattle.rules.specs.Sorts.{Item, Table, Class, aToJ, otherSmall, capital, aStop, aBar, class, _is_, isDigit, isOrdinal}
+use Rattle.rules.specs.Signs.{Way, bare, oneCapital, allCapitals, separated, firstDigit, firstLower, lower, denominator, ordinalMark, inside}
+use Rattle.rules.specs.Places.{Cause, lacksSign, breaksPair, outsideForm, sharesCells, Outcome, fault, silent, sign}
+use Rattle.rules.specs.Rows.{sortIn, itemsIn}
+use Rattle.rules.proofs.States.{Past, free, lone, caps, mixed, plain-on, past-on, under-one, under, past-bar, past-stop, past-point, past-dash, past-hyphen, past-feminine, past-percent, Future}
+use Rattle.rules.proofs.Sides.{caps-next, mixed-next, form-next, digit-next, mark-next, future, rule, after}
+use Rattle.entries.specs.States as state
+use Rattle.turns.specs.Acts as act
+use Rattle.turns.specs.Deeds.{deeds}
+
+-- WHAT STANDS THERE
+abbrev pub isSmall : Class → Bool
+isSmall c = c is aToJ || c is otherSmall
+
+abbrev pub isCapital : Class → Bool
+isCapital c = c is capital
+
+abbrev pub classAt : Table → List ℕ → ℕ → Class
+classAt tb text i = class (sortIn tb (getD text i 0))
+
+abbrev pub itemsFrom : Table → List ℕ → ℕ → List Item
+itemsFrom tb text i = itemsIn tb (drop i text)
+
+unfoldable pub futureAt : Table → List ℕ → ℕ → Future
+futureAt tb text i = future (itemsFrom tb text i)
+
+-- a code point, and the one after it, that a form goes on with behind its digits
+unfoldable pub endsForm : Table → ℕ → ℕ → Bool
+endsForm tb c d =
+    cond (class (sortIn tb c) is aStop) (isOrdinal (class (sortIn tb d))) (cond (class (sortIn tb c) is aBar) (isDigit (class (sortIn tb d))) false)
+
+-- THE STATE: after what stands before a place, with what stands from it on in view
+unfoldable pub stageAt : Past → Future → ℕ
+stageAt free f = state.free
+stageAt lone f = cond (caps-next f) state.capitals state.mixed
+stageAt caps f = cond (mixed-next f) state.mixed state.capitals
+stageAt mixed f = state.mixed
+stageAt plain-on f = cond (form-next f) state.lowered state.number
+stageAt past-on f = state.number
+stageAt under-one f = state.under
+stageAt under f = state.under
+stageAt past-bar f = state.barred
+stageAt past-stop f = cond (mark-next f) state.ordinal (cond (digit-next f) state.number state.guarded)
+stageAt past-point f = cond (digit-next f) state.number state.guarded
+stageAt past-dash f = state.dashed
+stageAt past-hyphen f = state.hyphened
+stageAt past-feminine f = state.guarded
+stageAt past-percent f = state.free
+
+-- THE DEED: what the table says
+unfoldable pub deedOf : ℕ → ℕ → ℕ
+unfolding deeds
+deedOf s c = getD deeds (s * 16 + c) 0
+
+-- the questions, decided by what follows
+unfoldable pub settledBy : ℕ → Future → ℕ
+settledBy d f =
+    cond (eqb d act.beginsRun) (cond (caps-next f) act.firstOfCapitals act.capitalAlone)
+    (cond (eqb d act.beginsNumber) (cond (form-next f) act.firstOfForm act.firstOfNumber)
+    (cond (eqb d act.numberPoint) (cond (digit-next f) act.pointInside act.pointAfter)
+    (cond (eqb d act.oneUnder) (cond (digit-next f) act.digitUnder act.sharesCells) d)))
+
+-- the number of a way of writing: a denominator's first digit, º or ª of an ordinal and a point inside a number have their own cells
+unfoldable pub wayOf : Way → ℕ
+wayOf bare = act.bareWay
+wayOf oneCapital = act.oneCapitalWay
+wayOf allCapitals = act.allCapitalsWay
+wayOf separated = act.separatedWay
+wayOf firstDigit = act.firstDigitWay
+wayOf firstLower = act.firstLowerWay
+wayOf lower = act.lowerWay
+wayOf denominator = act.bareWay
+wayOf ordinalMark = act.bareWay
+wayOf inside = act.bareWay
+
+-- the deed of an outcome of the rules, before a place of this state. (No place has `breaksPair` for its outcome.)
+unfoldable pub actOf : Outcome → ℕ → ℕ
+actOf (fault lacksSign) s = act.noSign
+actOf (fault breaksPair) s = act.noSign
+actOf (fault outsideForm) s = act.outsideForm
+actOf (fault sharesCells) s = act.sharesCells
+actOf silent s = s * act.ways + act.silentWay
+actOf (sign w) s = s * act.ways + wayOf w
