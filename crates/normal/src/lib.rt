@@ -1,0 +1,176 @@
+// Normalised print (paper 01, "Normalised print"): its length, whether a print is normal already, and the copy that is.
+// A new replacement by one code point is a constant and an arm of `replacement` here, in the order of the list, and a line of
+// crates/rules/specs/Normal.antt. Only … becomes more than one: `points_of`, `put_points` and `is_kept` say so.
+ghost use mathlib.Core.Path.{_≡_};
+ghost use mathlib.Core.Bool.{_&&_};
+ghost use mathlib.Core.List.{[], _∷_};
+ghost use Prim.Native.Nat.{_≤_};
+ghost use lib.ListN.{length};
+ghost use Rattle.rows.specs.Laid.{laid};
+ghost use Rattle.rules.specs.Normal.{replacements, replacedBy, isDigitPoint, isOrdinalPoint, becomes, normalOf};
+ghost use Rattle.rules.specs.Refusals.{reported};
+ghost use Rattle.normal.specs.Same.{TellsNormal, TellsKept};
+
+// The code points that normalising knows.
+const FULL_STOP: u32 = 0x2e; // .
+
+const DIGIT_0: u32 = 0x30; // 0
+
+const DIGIT_9: u32 = 0x39; // 9
+
+const FEMININE: u32 = 0xaa; // ª
+
+const LEFT_GUILLEMET: u32 = 0xab; // «
+
+const MASCULINE: u32 = 0xba; // º
+
+const RIGHT_GUILLEMET: u32 = 0xbb; // »
+
+const LEFT_SINGLE: u32 = 0x2018; // ‘
+
+const RIGHT_SINGLE: u32 = 0x2019; // ’
+
+const LEFT_DOUBLE: u32 = 0x201c; // “
+
+const RIGHT_DOUBLE: u32 = 0x201d; // ”
+
+const ELLIPSIS: u32 = 0x2026; // …
+
+const LEFT_ANGLE: u32 = 0x2039; // ‹
+
+const RIGHT_ANGLE: u32 = 0x203a; // ›
+
+// "A length above 4,294,967,295 is reported as that number."
+const GREATEST_REPORTED: usize = 4294967295;
+
+// A digit is 0 to 9 and nothing else.
+fn is_digit(point: u32) -> bool
+    ensures { λ r. ⌜ r ≡ isDigitPoint point ⌝ }
+{
+    DIGIT_0 <= point && point <= DIGIT_9
+}
+
+// º or ª.
+fn is_ordinal(point: u32) -> bool
+    ensures { λ r. ⌜ r ≡ isOrdinalPoint point ⌝ }
+{
+    point == MASCULINE || point == FEMININE
+}
+
+// Does a full stop come before this code point?
+fn gets_stop(after_digit: bool, point: u32) -> bool
+    ensures { λ r. ⌜ r ≡ («after_digit» && isOrdinalPoint point) ⌝ }
+{
+    after_digit && is_ordinal(point)
+}
+
+// What a code point becomes that becomes one.
+fn replacement(point: u32) -> u32
+    requires { ⌜ length (replacedBy replacements point) ≡ 1 ⌝ }
+    ensures { λ r. ⌜ replacedBy replacements point ≡ r ∷ [] ⌝ }
+{
+    match point {
+        LEFT_DOUBLE => LEFT_GUILLEMET,
+        RIGHT_DOUBLE => RIGHT_GUILLEMET,
+        LEFT_ANGLE => LEFT_SINGLE,
+        RIGHT_ANGLE => RIGHT_SINGLE,
+        _ => point,
+    }
+}
+
+// How many code points one becomes.
+fn points_of(after_digit: bool, point: u32) -> usize
+    ensures { λ r. ⌜ r ≡ length (becomes «after_digit» point) ⌝ }
+{
+    if gets_stop(after_digit, point) {
+        return 2;
+    }
+    if point == ELLIPSIS { 3 } else { 1 }
+}
+
+// Writes what a code point becomes at the front of what it is lent.
+fn put_points(text: &mut [u32], after_digit: bool, point: u32) -> usize
+    requires { ⌜ length (becomes «after_digit» point) ≤ length (now text) ⌝ }
+    ensures { λ r. ⌜ (r ≡ length (becomes «after_digit» point)) × (now (text .exit) ≡ laid (becomes «after_digit» point) (now (text .entry))) ⌝ }
+{
+    if gets_stop(after_digit, point) {
+        text[0] = FULL_STOP;
+        text[1] = point;
+        return 2;
+    }
+    if point == ELLIPSIS {
+        text[0] = FULL_STOP;
+        text[1] = FULL_STOP;
+        text[2] = FULL_STOP;
+        return 3;
+    }
+    text[0] = replacement(point);
+    1
+}
+
+// The length of the normalised print, as it is reported. It is counted without wrapping for any print: counting ends at the greatest
+// number that is reported.
+pub fn normal_length(print: &[u32]) -> usize
+    ensures { λ r. ⌜ r ≡ reported (length (normalOf (now (print .entry)))) ⌝ }
+{
+    let mut after_digit = false;
+    let mut n: usize = 0;
+    let mut i: usize = 0;
+    while i < print.len() {
+        let point = print[i];
+        n = n + points_of(after_digit, point);
+        if GREATEST_REPORTED <= n {
+            return GREATEST_REPORTED;
+        }
+        after_digit = is_digit(point);
+        i += 1;
+    }
+    n
+}
+
+// Does normalising leave this code point as it is?
+fn is_kept(after_digit: bool, point: u32) -> bool
+    ensures { λ r. ⌜ TellsKept r «after_digit» point ⌝ }
+{
+    if gets_stop(after_digit, point) {
+        return false;
+    }
+    if point == ELLIPSIS {
+        return false;
+    }
+    replacement(point) == point
+}
+
+// Is the print normal already?
+pub fn is_normal(print: &[u32]) -> bool
+    ensures { λ r. ⌜ TellsNormal r (now (print .entry)) ⌝ }
+{
+    let mut after_digit = false;
+    let mut i: usize = 0;
+    while i < print.len() {
+        let point = print[i];
+        if !is_kept(after_digit, point) {
+            return false;
+        }
+        after_digit = is_digit(point);
+        i += 1;
+    }
+    true
+}
+
+// Writes the normalised print from the first element on: what each code point becomes goes to its own stretch. The answer is its length.
+pub fn normalise(print: &[u32], text: &mut [u32]) -> usize
+    requires { ⌜ length (normalOf (now print)) ≤ length (now text) ⌝ }
+    ensures { λ r. ⌜ (r ≡ length (normalOf (now (print .entry)))) × (now (text .exit) ≡ laid (normalOf (now (print .entry))) (now (text .entry))) ⌝ }
+{
+    let mut after_digit = false;
+    let mut n: usize = 0;
+    let mut i: usize = 0;
+    while i < print.len() {
+        let point = print[i];
+        n = n + put_points(&mut text[n..], after_digit, point);
+        after_digit = is_digit(point);
+        i += 1;
+    }
+    n
+}
