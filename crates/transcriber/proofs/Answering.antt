@@ -1,0 +1,110 @@
+-- From what the passes find to the promise. In order: the ends of `fitted` and `transcribe_normal`, over plain values; the answer to a normalised text
+-- is the rules' (`carried`); lengths as they are reported. For any table. Assumes nothing.
+use mathlib.Core.Path.{_≡_, refl, sym, ap, _∙_, subst}
+use mathlib.Core.Bool.{Bool, true, false, cond}
+use mathlib.Core.List.{List}
+use mathlib.Core.Logic.{⊎-elim}
+use mathlib.Core.Option.{some}
+use Prim.Native.Nat.{ℕ, _≤_, _<_, min}
+use native.Mathlib.Omega.{arith}
+use native.Mathlib.Nat.{min-eq-left, min-eq-right}
+use lib.Dec.{leb}
+use lib.ListN.{length}
+use borrow.Author.Tests.{le-leb, lt-leb}
+use Rattle.rules.specs.Cells.{Text, Row}
+use Rattle.rules.specs.Sorts.{Table}
+use Rattle.rules.specs.Places.{Cause, lacksSign, breaksPair, outsideForm, sharesCells}
+use Rattle.rules.specs.Rows.{Verdict, good, bad, verdictOf}
+use Rattle.rules.specs.Normal.{normalOf}
+use Rattle.rules.specs.Refusals.{Refusal, tooLong, atFault, needsRoom, longestText, reported}
+use Rattle.rules.specs.Answers.{gives, refuses, PrintAnswer, print-refused, too-long}
+use Rattle.rules.proofs.Finite.{le-or-lt}
+use Rattle.rules.proofs.Rows.{whole-row}
+use Rattle.rules.proofs.Answers.{choose-le, choose-lt, by-verdict, answer, answered, short-answer}
+use Rattle.rows.specs.Laid.{laid}
+use Rattle.transcriber.specs.Promise.{Transcribed, done, refused}
+use Rattle.transcriber.specs.Passes.{shown, measuredOf, fittedBy, writtenBy, answerOf, outOf}
+use Rattle.transcriber.specs.declared.Answer.{Answer}
+use Rattle.transcriber.specs.declared.Answer.the-variants.{Done, TooLong, NoSign, PairBroken, OutsideForm, SharesCells, NeedsRoom}
+use Rattle.transcriber.specs.declared.Measured.{Measured}
+use Rattle.transcriber.specs.declared.Measured.the-variants.{Cells, Refused}
+
+-- what is measured as cells is accepted, and the count is the row's
+shown-cells : (v : Verdict) (m n : ℕ) → shown v m ≡ Cells n → (v ≡ good) × (n ≡ m)
+shown-cells good m n e = (refl, cc)
+shown-cells (bad lacksSign i) m n e = let z : _≡_ {A = ℕ} 0 1 = cc in absurd (omega arith)
+shown-cells (bad breaksPair i) m n e = let z : _≡_ {A = ℕ} 0 1 = cc in absurd (omega arith)
+shown-cells (bad outsideForm i) m n e = let z : _≡_ {A = ℕ} 0 1 = cc in absurd (omega arith)
+shown-cells (bad sharesCells i) m n e = let z : _≡_ {A = ℕ} 0 1 = cc in absurd (omega arith)
+
+module _ (tb : Table) (t : Text) where
+  pub measured-cells : (n : ℕ) → measuredOf tb t ≡ Cells n → (verdictOf tb t ≡ good) × (n ≡ length (whole-row tb t))
+  unfolding measuredOf
+  measured-cells n e = shown-cells (verdictOf tb t) (length (whole-row tb t)) n e
+
+  -- the ends of `fitted` and `transcribe_normal`
+  module _ (lent : List ℕ) where
+    pub cramped : (n : ℕ) → measuredOf tb t ≡ Cells n → length lent < n → (NeedsRoom n ≡ answerOf tb t (length lent)) × (lent ≡ outOf tb t lent)
+    unfolding answerOf outOf
+    cramped n e l = rw (e, lt-leb n (length lent) l) (refl, refl)
+
+    pub fitting : (n r : ℕ) (new : List ℕ) → measuredOf tb t ≡ Cells n → n ≤ length lent → r ≡ length (whole-row tb t) → new ≡ laid (whole-row tb t) lent
+        → (Done r ≡ answerOf tb t (length lent)) × (new ≡ outOf tb t lent)
+    unfolding answerOf outOf
+    fitting n r new e l c w = rw (e, le-leb n (length lent) l) (ap Done (c ∙ sym (measured-cells n e .1)), w)
+
+    pub measured-refused : (a : Answer) → measuredOf tb t ≡ Refused a → (a ≡ answerOf tb t (length lent)) × (lent ≡ outOf tb t lent)
+    unfolding answerOf outOf
+    measured-refused a e = rw e (refl, refl)
+
+-- THE PROMISE
+module _ (tb : Table) (p : Text) (lent : List ℕ) where
+  module _ (short : length (normalOf p) ≤ longestText) where
+    by : (v : Verdict) → verdictOf tb (normalOf p) ≡ v → PrintAnswer tb p (length lent) (by-verdict v (whole-row tb (normalOf p)) (length lent))
+    by v e = subst (PrintAnswer tb p (length lent)) (short-answer tb p (length lent) v short e) (answered tb p (length lent))
+
+    abbrev Kept : Measured → Type 0
+    Kept x = Transcribed tb p lent (fittedBy x (length lent)) (writtenBy x (whole-row tb (normalOf p)) lent)
+
+    kept : (v : Verdict) → verdictOf tb (normalOf p) ≡ v → Kept (shown v (length (whole-row tb (normalOf p))))
+    kept good e =
+        let n : ℕ = length (whole-row tb (normalOf p)) in
+        let r : Row = whole-row tb (normalOf p) in
+        ⊎-elim
+        (λ l. rw (le-leb n (length lent) l)
+        (done r (subst (PrintAnswer tb p (length lent)) (choose-le n (length lent) (gives r) (refuses (needsRoom n)) l) (by good e))))
+        (λ l. rw (lt-leb n (length lent) l)
+        (refused (NeedsRoom n) (needsRoom n) refl
+        (subst (PrintAnswer tb p (length lent)) (choose-lt n (length lent) (gives r) (refuses (needsRoom n)) l) (by good e)))) (le-or-lt n (length lent))
+    kept (bad lacksSign i) e = refused (NoSign i) (atFault lacksSign i) refl (by (bad lacksSign i) e)
+    kept (bad breaksPair i) e = refused (PairBroken i) (atFault breaksPair i) refl (by (bad breaksPair i) e)
+    kept (bad outsideForm i) e = refused (OutsideForm i) (atFault outsideForm i) refl (by (bad outsideForm i) e)
+    kept (bad sharesCells i) e = refused (SharesCells i) (atFault sharesCells i) refl (by (bad sharesCells i) e)
+
+    -- the answer to the normalised print
+    promised : Transcribed tb p lent (answerOf tb (normalOf p) (length lent)) (outOf tb (normalOf p) lent)
+    unfolding answerOf outOf measuredOf
+    promised = kept (verdictOf tb (normalOf p)) refl
+
+    -- from the answer to a text that is the normalised print
+    pub carried : (t : Text) → t ≡ normalOf p → (a : Answer) (new : List ℕ) → (a ≡ answerOf tb t (length lent)) × (new ≡ outOf tb t lent)
+        → Transcribed tb p lent a new
+    carried t e a new h =
+        subst (λ (x : Answer). Transcribed tb p lent x new) (sym (h .0 ∙ ap (λ (u : Text). answerOf tb u (length lent)) e))
+        (subst (Transcribed tb p lent (answerOf tb (normalOf p) (length lent))) (sym (h .1 ∙ ap (λ (u : Text). outOf tb u lent) e)) promised)
+
+  pub promised-long : (n : ℕ) → longestText < length (normalOf p) → n ≡ reported (length (normalOf p)) → Transcribed tb p lent (TooLong n) lent
+  promised-long n l e =
+      refused (TooLong n) (tooLong n) refl
+      (subst (λ (k : ℕ). PrintAnswer tb p (length lent) (refuses (tooLong k))) (sym e) (print-refused (tooLong (reported (length (normalOf p)))) (too-long l)))
+
+-- LENGTHS as they are reported
+pub reported-le : (n : ℕ) → reported n ≤ n
+reported-le n =
+    ⊎-elim (λ l. let e : reported n ≡ n = min-eq-left l in omega (arith, e)) (λ l. let e : reported n ≡ 4294967295 = min-eq-right (omega arith) in omega (arith, e, l))
+    (le-or-lt n 4294967295)
+
+pub reported-short : (n : ℕ) → reported n ≤ longestText → n ≤ longestText
+reported-short n h =
+    ⊎-elim (λ l. let e : reported n ≡ n = min-eq-left l in omega (arith, e, h)) (λ l. let e : reported n ≡ 4294967295 = min-eq-right (omega arith) in absurd (omega (arith, e, h)))
+    (le-or-lt n 4294967295)

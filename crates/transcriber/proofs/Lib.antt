@@ -1,0 +1,6 @@
+pub mod Cells
+pub mod Pairing
+pub mod Going
+pub mod Measuring
+pub mod Writing
+pub mod Answering

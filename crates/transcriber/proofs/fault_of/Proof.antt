@@ -1,0 +1,28 @@
+-- `fault_of`: a fault that is none of the first two is the third. Assumes nothing.
+use mathlib.Core.Path.{_≡_, sym}
+use Rattle.transcriber.specs.Passes.{faults, faultBy}
+use Rattle.transcriber.specs.declared.Answer.the-variants.{SharesCells}
+use Rattle.transcriber.proofs.Cells.{rest-none}
+use Rattle.transcriber.proofs.fault_of.Statement.{statement}
+use Rattle.transcriber.proofs.fault_of.Tie as tie
+use Rattle.transcriber.proofs.fault_of.Reads as reads
+use Rattle.transcriber.proofs.fault_of.Lts as lts
+
+-- src/lib.rt:168:1
+returns : tie.Need-returns
+unfolding faultBy
+returns c = rw (c .match .keys1)
+
+-- src/lib.rt:168:1
+returns-2 : tie.Need-returns-2
+unfolding faultBy
+returns-2 c = rw (c .match .keys2)
+
+-- src/lib.rt:168:1
+returns-3 : tie.Need-returns-3
+unfolding faultBy
+returns-3 c =
+    sym (rest-none Unit (faults (c .before .args .place)) (c .before .args .deed) (SharesCells (c .before .args .place)) (c .match .rest) .1)
+
+pub fault-of-spec : {M : Type 1} → statement M
+fault-of-spec = tie.close (tie.spec returns returns-2 returns-3)

@@ -1,0 +1,298 @@
+-- `write`: between two turns the lent row, with what is still to come laid behind what is written, is the row that it will be (`Wid`). Either way of
+-- writing a sign lends the rest of the row to its writer and is one turn (`wid-on`). The measure is how much of the text is left.
+-- Assumes nothing.
+use mathlib.Core.Path.{_≡_, refl, sym, ap, _∙_, subst}
+use mathlib.Core.Bool.{Bool, true}
+use mathlib.Core.List.{List}
+use mathlib.Core.Logic.{⊎-elim}
+use Prim.Native.Nat.{ℕ, _+_, _-_, _/_, _%_, _≤_, _<_}
+use native.Mathlib.Omega.{arith}
+use borrow.Author.Needs.{needs}
+use lib.ListN.{length, take, drop, getD}
+use Rattle.rules.specs.Castilian.{castilian}
+use Rattle.rules.specs.Cells.{Row}
+use Rattle.rules.proofs.States.{Past}
+use Rattle.rules.proofs.Sides.{outcome-cells}
+use Rattle.entries.specs.Entries.{entryOf, classIn, thenIn, usualIn}
+use Rattle.rows.specs.Laid.{laid}
+use Rattle.turns.specs.Acts as act
+use Rattle.turns.specs.Stages.{futureAt, stageAt, deedOf, settledBy, actOf}
+use Rattle.transcriber.specs.Passes.{ownBy, cellsBy}
+use Rattle.transcriber.proofs.Going.{held, sortHere, next, ahead, outcomeHere, state-after, cells-here, low-deed}
+use Rattle.transcriber.proofs.Measuring.{state-small, act-is, usual-goes}
+use Rattle.transcriber.proofs.Writing.{Wid, wid-start, wid-fine, wid-room, wid-few, wid-on, wid-end}
+use Rattle.transcriber.proofs.write.Statement.{statement}
+use Rattle.transcriber.proofs.write.Tie as tie
+use Rattle.transcriber.proofs.write.Reads as reads
+use Rattle.transcriber.proofs.write.Lts as lts
+use Rattle.entries.proofs.class_in.Reads as class-in-reads
+use Rattle.entries.proofs.entry_of.Reads as entry-of-reads
+use Rattle.entries.proofs.is_usual.Reads as is-usual-reads
+use Rattle.entries.proofs.then_in.Reads as then-in-reads
+use Rattle.transcriber.proofs.put_own.Reads as put-own-reads
+use Rattle.transcriber.proofs.put_sign.Reads as put-sign-reads
+use Rattle.turns.proofs.deed_of.Reads as deed-of-reads
+use Rattle.turns.proofs.settled.Reads as settled-reads
+
+abbrev Inv-loop : tie.InvT-loop
+Inv-loop text row₀ state₀ n₀ i₀ row state n i = Wid castilian text row₀ row state n i
+
+abbrev μ-loop : tie.MeasureT-loop
+μ-loop text row₀ state₀ n₀ i₀ row state n i = length text - i
+
+-- THE PLACES: a turn begins; whether it is as usual; its deed is known
+abbrev L : Type 0
+L = tie.At-loop Inv-loop μ-loop
+
+abbrev start : L → tie.Start Inv-loop μ-loop
+start l = l .before .before .before
+
+abbrev text : L → List ℕ
+text l = start l .args .text .now
+
+abbrev row₀ : L → List ℕ
+row₀ l = start l .args .row .now
+
+abbrev entry : L → ℕ
+entry l = entryOf castilian (getD (text l) (l .loop .i) 0)
+
+abbrev past : L → Past
+past l = l .loop .inv .past
+
+abbrev U : Type 0
+U = tie.After-is-usual Inv-loop μ-loop
+
+abbrev at-u : U → L
+at-u u = u .before .before .before .before
+
+inside : (u : U) → at-u u .loop .i < length (text (at-u u))
+inside u = u .before .before .before .loop-test .taken
+
+entry-is : (u : U) → u .before .entry-of .result ≡ entry (at-u u)
+entry-is u = u .before .entry-of .ensures
+
+-- the sign at hand
+abbrev here : L → Row
+here l = outcome-cells (outcomeHere castilian held (text l) (l .loop .i) (past l)) (sortHere castilian held (text l) (l .loop .i) (past l))
+
+-- as usual: the word's own cells are the sign's
+usual : (u : U) → u .is-usual .result ≡ true
+    → (ownBy (u .before .entry-of .result) ≡ here (at-u u))
+    × (thenIn (entry (at-u u)) ≡ stageAt (next castilian held (text (at-u u)) (at-u u .loop .i) (past (at-u u))) (ahead castilian held (text (at-u u)) (at-u u .loop .i) (past (at-u u))))
+usual u e =
+    let l = at-u u in
+    let g = usual-goes castilian held (text l) (past l) (l .loop .i) (l .loop .state) (l .loop .inv .at)
+    (sym (u .is-usual .ensures ∙ ap (λ (w : ℕ). usualIn w (l .loop .state)) (entry-is u)) ∙ e) in
+    (ap ownBy (entry-is u) ∙ g .1, g .2)
+
+abbrev D : Type 0
+D = tie.After-settled Inv-loop μ-loop
+
+abbrev from-d : D → U
+from-d c = c .before .before .before .before
+
+-- the deed is the rules' outcome, and no fault
+deed-told : (c : D) → let l = at-u (from-d c) in
+    c .settled .result ≡ actOf (outcomeHere castilian held (text l) (l .loop .i) (past l)) (stageAt (next castilian held (text l) (l .loop .i) (past l)) (ahead castilian held (text l) (l .loop .i) (past l)))
+deed-told c =
+    let u = from-d c in
+    let l = at-u u in
+    act-is castilian held (text l) (past l) (l .loop .i) (l .loop .state) (l .loop .inv .at) (c .settled .result)
+    (c .settled .ensures
+    ∙ ap (λ (d : ℕ). settledBy d (futureAt castilian (text l) (l .loop .i + 1)))
+    (c .before .deed-of .ensures ∙ ap (deedOf (l .loop .state)) (c .before .before .class-in .ensures ∙ ap classIn (entry-is u))))
+
+low : (c : D) → c .settled .result < act.questions
+low c =
+    let u = from-d c in
+    let l = at-u u in
+    low-deed castilian held (text l) (l .loop .i) (past l) (c .settled .result) (deed-told c)
+    (wid-fine castilian held (text l) (row₀ l) (l .loop .row) (l .loop .state) (l .loop .n) (l .loop .i) (l .loop .inv) (start l .pre .1) (inside u))
+
+-- otherwise: the cells of its way are the sign's
+odd : (c : D) → cellsBy (c .settled .result % 8) (from-d c .before .entry-of .result) ≡ here (at-u (from-d c))
+odd c =
+    let u = from-d c in
+    let l = at-u u in
+    ap (cellsBy (c .settled .result % 8)) (entry-is u)
+    ∙ cells-here castilian held (text l) (l .loop .i) (past l) (c .settled .result) (deed-told c) (low c)
+
+-- src/lib.rt:223:5
+loop-holds : tie.Need-loop-holds Inv-loop μ-loop
+loop-holds c = wid-start castilian held (c .before .before .args .text .now) (c .before .before .args .row .now) (c .before .before .pre .0)
+
+-- src/lib.rt:224:39
+mul-entry-of : tie.Need-mul-entry-of Inv-loop μ-loop
+mul-entry-of c = search needs
+
+-- src/lib.rt:224:39
+shared-slice-read-entry-of : tie.Need-shared-slice-read-entry-of Inv-loop μ-loop
+shared-slice-read-entry-of c = search needs
+
+-- src/lib.rt:224:13
+entry-of-requires : tie.Need-entry-of-requires Inv-loop μ-loop
+entry-of-requires c κs = search needs
+
+-- src/lib.rt:225:12
+is-usual-requires : tie.Need-is-usual-requires Inv-loop μ-loop
+is-usual-requires c κs =
+    let l = c .before .before .before in
+    state-small castilian held (text l) (past l) (l .loop .i) (l .loop .state) (l .loop .inv .at)
+
+-- src/lib.rt:226:29
+sub-put-own : tie.Need-sub-put-own Inv-loop μ-loop
+sub-put-own c = search needs
+
+-- src/lib.rt:226:29
+part-put-own-start : tie.Need-part-put-own-start Inv-loop μ-loop
+part-put-own-start c = search needs
+
+-- src/lib.rt:226:29
+part-put-own-end : tie.Need-part-put-own-end Inv-loop μ-loop
+part-put-own-end c = search needs
+
+-- src/lib.rt:226:21
+put-own-requires : tie.Need-put-own-requires Inv-loop μ-loop
+put-own-requires c κs =
+    let u = c .before .before in
+    let l = at-u u in
+    wid-room castilian held (text l) (row₀ l) (l .loop .row) (l .loop .state) (l .loop .n) (l .loop .i) (l .loop .inv) (start l .pre .1) (inside u) (ownBy (u .before .entry-of .result)) (usual u (c .before .if1 .taken) .0)
+
+-- src/lib.rt:226:17
+add-n : tie.Need-add-n Inv-loop μ-loop
+add-n c =
+    let p = c .before .before in
+    let u = p .before .before .before in
+    let l = at-u u in
+    omega (
+      arith,
+      p .put-own .ensures .0,
+      l .loop .inv .same,
+      start l .good .1,
+      wid-few castilian held (text l) (row₀ l) (l .loop .row) (l .loop .state) (l .loop .n) (l .loop .i) (l .loop .inv) (start l .pre .1) (inside u) (ownBy (u .before .entry-of .result)) (usual u (p .before .before .if1 .taken) .0),
+    )
+
+-- src/lib.rt:227:13
+then-in-requires : tie.Need-then-in-requires Inv-loop μ-loop
+then-in-requires c κs = search needs
+
+-- src/lib.rt:229:45
+add-settled : tie.Need-add-settled Inv-loop μ-loop
+add-settled c = search needs
+
+-- src/lib.rt:229:74
+class-in-requires : tie.Need-class-in-requires Inv-loop μ-loop
+class-in-requires c κs = search needs
+
+-- src/lib.rt:229:52
+deed-of-requires : tie.Need-deed-of-requires Inv-loop μ-loop
+deed-of-requires c κs =
+    let u = c .before .before in
+    let l = at-u u in
+    (state-small castilian held (text l) (past l) (l .loop .i) (l .loop .state) (l .loop .inv .at), omega (arith, c .class-in .ensures))
+
+-- src/lib.rt:229:17
+settled-requires : tie.Need-settled-requires Inv-loop μ-loop
+settled-requires c κs = search needs
+
+-- src/lib.rt:230:30
+sub-put-sign : tie.Need-sub-put-sign Inv-loop μ-loop
+sub-put-sign c = search needs
+
+-- src/lib.rt:230:30
+part-put-sign-start : tie.Need-part-put-sign-start Inv-loop μ-loop
+part-put-sign-start c = search needs
+
+-- src/lib.rt:230:30
+part-put-sign-end : tie.Need-part-put-sign-end Inv-loop μ-loop
+part-put-sign-end c = search needs
+
+-- src/lib.rt:230:21
+put-sign-requires : tie.Need-put-sign-requires Inv-loop μ-loop
+put-sign-requires c κs =
+    let d = c .before in
+    let u = from-d d in
+    let l = at-u u in
+    wid-room castilian held (text l) (row₀ l) (l .loop .row) (l .loop .state) (l .loop .n) (l .loop .i) (l .loop .inv) (start l .pre .1) (inside u) (cellsBy (d .settled .result % 8) (u .before .entry-of .result)) (odd d)
+
+-- src/lib.rt:230:17
+add-n-2 : tie.Need-add-n-2 Inv-loop μ-loop
+add-n-2 c =
+    let p = c .before .before in
+    let d = p .before .before in
+    let u = from-d d in
+    let l = at-u u in
+    omega (
+      arith,
+      p .put-sign .ensures .0,
+      l .loop .inv .same,
+      start l .good .1,
+      wid-few castilian held (text l) (row₀ l) (l .loop .row) (l .loop .state) (l .loop .n) (l .loop .i) (l .loop .inv) (start l .pre .1) (inside u) (cellsBy (d .settled .result % 8) (u .before .entry-of .result)) (odd d),
+    )
+
+-- src/lib.rt:233:9
+add-i : tie.Need-add-i Inv-loop μ-loop
+add-i c = search needs
+
+-- src/lib.rt:223:5
+loop-less : tie.Need-loop-less Inv-loop μ-loop
+loop-less c = search needs
+
+-- src/lib.rt:223:5
+loop-again : tie.Need-loop-again Inv-loop μ-loop
+loop-again c =
+    let u = c .before in
+    let l = at-u u in
+    let t = text l in
+    ⊎-elim
+    (λ j. subst (λ (n : ℕ). Wid castilian t (row₀ l) (c .if1 .row) (c .if1 .state) n (l .loop .i + 1)) (sym (j .8))
+    (subst (λ (s : ℕ). Wid castilian t (row₀ l) (c .if1 .row) s (l .loop .n + j .2 .result) (l .loop .i + 1)) (sym (j .7 ∙ j .5 .ensures ∙ ap thenIn (entry-is u)))
+    (wid-on castilian held (text l) (row₀ l) (l .loop .row) (l .loop .state) (l .loop .n) (l .loop .i) (l .loop .inv) (start l .pre .1) (inside u) (ownBy (u .before .entry-of .result)) (usual u (j .0 .taken) .0) (thenIn (entry l)) (j .2 .result) _ (c .if1 .row)
+    (usual u (j .0 .taken) .1) (j .2 .ensures .0) (j .2 .ensures .1) (j .6))))
+    (λ j. let d : D = record { before = record { before = record { before = record { before = u; if1 = j .0 }; class-in = j .1 }; deed-of = j .2 }; settled = j .3 } in
+    subst (λ (n : ℕ). Wid castilian t (row₀ l) (c .if1 .row) (c .if1 .state) n (l .loop .i + 1)) (sym (j .10))
+    (subst (λ (s : ℕ). Wid castilian t (row₀ l) (c .if1 .row) s (l .loop .n + j .5 .result) (l .loop .i + 1)) (sym (j .9))
+    (wid-on castilian held (text l) (row₀ l) (l .loop .row) (l .loop .state) (l .loop .n) (l .loop .i) (l .loop .inv) (start l .pre .1) (inside u) (cellsBy (d .settled .result % 8) (u .before .entry-of .result)) (odd d) (d .settled .result / 8) (j .5 .result) _ (c .if1 .row)
+    (state-after castilian held t (l .loop .i) (past l) (d .settled .result) (deed-told d) (low d)) (j .5 .ensures .0) (j .5 .ensures .1) (j .8)))) (c .if1 .came)
+
+-- src/lib.rt:216:1
+same-length : tie.Need-same-length Inv-loop μ-loop
+same-length c = search needs
+
+-- src/lib.rt:216:1
+returns : tie.Need-returns Inv-loop μ-loop
+returns c =
+    let l = c .before in
+    wid-end castilian held (text l) (row₀ l) (l .loop .row) (l .loop .state) (l .loop .n) (l .loop .i) (l .loop .inv) (start l .pre .1) (c .loop-test .left)
+
+pub write-spec : {M : Type 1} → statement M
+write-spec =
+    tie.close
+    (tie.spec
+    Inv-loop
+    μ-loop
+    loop-holds
+    mul-entry-of
+    shared-slice-read-entry-of
+    entry-of-requires
+    is-usual-requires
+    sub-put-own
+    part-put-own-start
+    part-put-own-end
+    put-own-requires
+    add-n
+    then-in-requires
+    add-settled
+    class-in-requires
+    deed-of-requires
+    settled-requires
+    sub-put-sign
+    part-put-sign-start
+    part-put-sign-end
+    put-sign-requires
+    add-n-2
+    add-i
+    loop-less
+    loop-again
+    same-length
+    returns)

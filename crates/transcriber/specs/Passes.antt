@@ -1,0 +1,98 @@
+-- What the inner functions promise: the cells of a sign by its way and its word; the pair rule over bits; what a pass finds; the answer to a
+-- normalised text. Assumes nothing.
+use mathlib.Core.Bool.{Bool, true, false, _&&_, cond}
+use mathlib.Core.List.{List, [], _∷_}
+use Prim.Native.Nat.{ℕ, _+_, _-_, _*_, _/_, _%_, _^_}
+use lib.Dec.{eqb, leb, ltb}
+use lib.ListN.{length}
+use Rattle.rules.specs.Cells.{Text, Row}
+use Rattle.rules.specs.Sorts.{Table}
+use Rattle.rules.specs.Pairs.{kinds, Opens}
+use Rattle.rules.specs.Places.{lacksSign, breaksPair, outsideForm, sharesCells}
+use Rattle.rules.specs.Rows.{Verdict, good, bad, verdictOf}
+use Rattle.rules.proofs.Rows.{whole-row}
+use Rattle.entries.specs.Entries.{countIn, firstIn, secondIn, thirdIn, lowerIn}
+use Rattle.turns.specs.Acts as act
+use Rattle.rows.specs.Laid.{laid}
+use Rattle.transcriber.specs.declared.Answer.{Answer}
+use Rattle.transcriber.specs.declared.Answer.the-variants.{Done, NoSign, PairBroken, OutsideForm, SharesCells, NeedsRoom}
+use Rattle.transcriber.specs.declared.Measured.{Measured}
+use Rattle.transcriber.specs.declared.Measured.the-variants.{Cells, Refused}
+use Rattle.transcriber.specs.declared.Pairs.{Pairs}
+use Rattle.transcriber.specs.declared.Pairs.the-variants.{Stand, Broken}
+
+-- by a number: what stands beside it, or else d. What a `match` on a number says.
+abbrev pub choose : {A : Type 0} → List (ℕ × A) → ℕ → A → A
+choose [] n d = d
+choose (e ∷ es) n d = cond (eqb n (e .0)) (e .1) (choose es n d)
+
+-- THE CELLS of a word by itself, by their count; of a sign, by its way
+abbrev pub counts : ℕ → List (ℕ × Row)
+counts e = (1, firstIn e ∷ []) ∷ (2, firstIn e ∷ secondIn e ∷ []) ∷ (3, firstIn e ∷ secondIn e ∷ thirdIn e ∷ []) ∷ []
+
+unfoldable pub ownBy : ℕ → Row
+ownBy e = choose (counts e) (countIn e) []
+
+abbrev dots46 : ℕ
+dots46 = 40
+
+abbrev dots5 : ℕ
+dots5 = 16
+
+abbrev dots3456 : ℕ
+dots3456 = 60
+
+abbrev pub waysOf : ℕ → List (ℕ × Row)
+waysOf e =
+    (act.bareWay, ownBy e) ∷ (act.oneCapitalWay, dots46 ∷ firstIn e ∷ []) ∷ (act.allCapitalsWay, dots46 ∷ dots46 ∷ firstIn e ∷ [])
+    ∷ (act.separatedWay, dots5 ∷ firstIn e ∷ []) ∷ (act.firstDigitWay, dots3456 ∷ firstIn e ∷ [])
+    ∷ (act.firstLowerWay, dots3456 ∷ lowerIn e ∷ []) ∷ (act.lowerWay, lowerIn e ∷ []) ∷ []
+
+unfoldable pub cellsBy : ℕ → ℕ → Row
+cellsBy w e = choose (waysOf e) w []
+
+-- THE PAIR RULE over bits: how many states there are; is a kind open; what a mark does
+abbrev pub openStates : ℕ
+openStates = 2 ^ kinds
+
+abbrev pub opensOf : ℕ → Opens
+opensOf o k = ltb k kinds && eqb (o / 2 ^ k % 2) 1
+
+-- (the mark is 2k + 1 for the opener of kind k, 2k + 2 for its closer)
+unfoldable pub pairsBy : ℕ → ℕ → Pairs
+pairsBy o m =
+    cond (eqb (m % 2) 1) (cond (eqb (o / 2 ^ ((m - 1) / 2) % 2) 1) Broken (Stand (o + 2 ^ ((m - 1) / 2))))
+    (cond (eqb (o / 2 ^ ((m - 1) / 2) % 2) 1) (Stand (o - 2 ^ ((m - 1) / 2))) Broken)
+
+-- THE FIRST PASS
+abbrev pub faults : ℕ → List (ℕ × Answer)
+faults i = (act.noSign, NoSign i) ∷ (act.outsideForm, OutsideForm i) ∷ []
+
+unfoldable pub faultBy : ℕ → ℕ → Answer
+faultBy d i = choose (faults i) d (SharesCells i)
+
+-- the rules' verdict, with the count of the row's cells
+abbrev pub shown : Verdict → ℕ → Measured
+shown good n = Cells n
+shown (bad lacksSign i) n = Refused (NoSign i)
+shown (bad breaksPair i) n = Refused (PairBroken i)
+shown (bad outsideForm i) n = Refused (OutsideForm i)
+shown (bad sharesCells i) n = Refused (SharesCells i)
+
+unfoldable pub measuredOf : Table → Text → Measured
+measuredOf tb t = shown (verdictOf tb t) (length (whole-row tb t))
+
+-- THE ANSWER to a normalised text, and what the lent row then holds
+abbrev pub fittedBy : Measured → ℕ → Answer
+fittedBy (Cells n) room = cond (leb n room) (Done n) (NeedsRoom n)
+fittedBy (Refused a) room = a
+
+abbrev pub writtenBy : Measured → Row → List ℕ → List ℕ
+writtenBy (Cells n) r lent = cond (leb n (length lent)) (laid r lent) lent
+writtenBy (Refused a) r lent = lent
+
+unfoldable pub answerOf : Table → Text → ℕ → Answer
+answerOf tb t room = fittedBy (measuredOf tb t) room
+
+unfoldable pub outOf : Table → Text → List ℕ → List ℕ
+outOf tb t lent = writtenBy (measuredOf tb t) (whole-row tb t) lent
