@@ -4,3 +4,4 @@ pub mod Going
 pub mod Measuring
 pub mod Writing
 pub mod Answering
+pub mod Claims
