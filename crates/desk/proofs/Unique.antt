@@ -1,5 +1,5 @@
 -- Any two outcomes that the exported promise allows are the same. Assumes nothing.
-use mathlib.Core.Path.{_≡_, sym, ap, _∙_}
+use mathlib.Core.Path.{sym, ap, _∙_}
 use Rattle.rules.specs.Castilian.{castilian}
 use Rattle.transcriber.proofs.Claims.{one-outcome}
 use Rattle.desk.specs.Shows.{shownOf, OneShown}

@@ -5,13 +5,12 @@ use mathlib.Core.List.{List, [], _∷_}
 use Prim.Native.Nat.{ℕ, _<_}
 use lib.Dec.{T, eqb, ltb, eqb→eq, ltb→lt}
 use Rattle.rules.specs.Cells.{dots}
-use Rattle.rules.specs.Sorts.{Sort, noSign, Item, Table, class, classNumber, isDigitCell}
+use Rattle.rules.specs.Sorts.{Sort, Table, class, classNumber, isDigitCell}
 use Rattle.rules.specs.Signs.{ownCells, lowerCells}
-use Rattle.rules.specs.Pairs.{kinds, markOf}
+use Rattle.rules.specs.Pairs.{markOf}
 use Rattle.rules.specs.Rows.{sortIn}
 use Rattle.rules.specs.Castilian.{castilian}
-use Rattle.rules.proofs.Finite.{every, holds, Hold, hold}
-use Rattle.entries.specs.States.{states}
+use Rattle.rules.proofs.Finite.{holds, Hold, hold}
 use Rattle.entries.specs.Entries.{classIn, markIn, thenIn, oddIn, thenOf, oddStates, bits, markNumber, word, entryOf}
 use Rattle.entries.proofs.Keys.{at-every}
 

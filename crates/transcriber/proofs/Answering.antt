@@ -1,26 +1,23 @@
 -- From what the passes find to the promise. In order: the ends of `fitted` and `transcribe_normal`, over plain values; the answer to a normalised text
 -- is the rules' (`carried`); lengths as they are reported. For any table. Assumes nothing.
 use mathlib.Core.Path.{_≡_, refl, sym, ap, _∙_, subst}
-use mathlib.Core.Bool.{Bool, true, false, cond}
 use mathlib.Core.List.{List}
 use mathlib.Core.Logic.{⊎-elim}
-use mathlib.Core.Option.{some}
-use Prim.Native.Nat.{ℕ, _≤_, _<_, min}
+use Prim.Native.Nat.{ℕ, _≤_, _<_}
 use native.Mathlib.Omega.{arith}
 use native.Mathlib.Nat.{min-eq-left, min-eq-right}
-use lib.Dec.{leb}
 use lib.ListN.{length}
 use borrow.Author.Tests.{le-leb, lt-leb}
 use Rattle.rules.specs.Cells.{Text, Row}
 use Rattle.rules.specs.Sorts.{Table}
-use Rattle.rules.specs.Places.{Cause, lacksSign, breaksPair, outsideForm, sharesCells}
+use Rattle.rules.specs.Places.{lacksSign, breaksPair, outsideForm, sharesCells}
 use Rattle.rules.specs.Rows.{Verdict, good, bad, verdictOf}
 use Rattle.rules.specs.Normal.{normalOf}
-use Rattle.rules.specs.Refusals.{Refusal, tooLong, atFault, needsRoom, longestText, reported}
+use Rattle.rules.specs.Refusals.{tooLong, atFault, needsRoom, longestText, reported}
 use Rattle.rules.specs.Answers.{gives, refuses, PrintAnswer, print-refused, too-long}
 use Rattle.rules.proofs.Finite.{le-or-lt}
 use Rattle.rules.proofs.Rows.{whole-row}
-use Rattle.rules.proofs.Answers.{choose-le, choose-lt, by-verdict, answer, answered, short-answer}
+use Rattle.rules.proofs.Answers.{choose-le, choose-lt, by-verdict, answered, short-answer}
 use Rattle.rows.specs.Laid.{laid}
 use Rattle.transcriber.specs.Promise.{Transcribed, done, refused}
 use Rattle.transcriber.specs.Passes.{shown, measuredOf, fittedBy, writtenBy, answerOf, outOf}

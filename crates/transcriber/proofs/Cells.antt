@@ -1,19 +1,18 @@
 -- The cells of a word by its count, and of a sign by its way, over plain numbers: what each end of `put_own`, `put_sign` and `width_of` cites.
 -- Assumes nothing.
 use mathlib.Core.Path.{_≡_, refl, sym, ap, _∙_}
-use mathlib.Core.Bool.{Bool, true, false, cond}
+use mathlib.Core.Bool.{Bool, true, false}
 use mathlib.Core.List.{List, [], _∷_}
 use mathlib.Core.Logic.{⊎-elim}
-use Prim.Native.Nat.{ℕ, _/_, _%_, _≤_, _<_}
+use Prim.Native.Nat.{ℕ}
 use native.Mathlib.Omega.{arith}
 use lib.Dec.{eqb}
 use lib.ListN.{length}
 use borrow.Author.Tests.{ne-eqb, eqb-true, eqb-false}
-use Rattle.rules.specs.Cells.{Row}
 use Rattle.rules.proofs.Finite.{le-or-lt}
 use Rattle.entries.specs.Entries.{countIn, firstIn, secondIn, thirdIn, lowerIn}
 use Rattle.turns.specs.Acts as act
-use Rattle.transcriber.specs.Passes.{choose, counts, ownBy, waysOf, cellsBy}
+use Rattle.transcriber.specs.Passes.{choose, ownBy, waysOf, cellsBy}
 
 -- what the `_` arm of a `match` on a number knows: that it is none of the keys; then what is chosen is what is left
 module _ {A : Type 0} where

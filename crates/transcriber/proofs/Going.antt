@@ -5,26 +5,25 @@ use mathlib.Core.Path.{_≡_, refl, sym, ap, _∙_, subst}
 use mathlib.Core.Bool.{Bool, true, false, _&&_, _||_, not, cond, true≢false}
 use mathlib.Core.List.{List, [], _∷_, _++_}
 use Prim.Native.Nat.{ℕ, _+_, _*_, _/_, _%_, _^_, _≤_, _<_}
-use native.Mathlib.Omega.{arith}
 use native.Mathlib.Numerals.{add-one}
 use lib.Dec.{T, eqb, eqb→eq}
-use lib.ListN.{length, drop, getD, drop-of-length-le}
+use lib.ListN.{length, getD, drop-of-length-le}
 use lib.Seq.{drop-cons}
 use Rattle.rules.specs.Cells.{Row, dots}
-use Rattle.rules.specs.Sorts.{Sort, noSign, Item, Table, Class, aToJ, capital, unlisted, class, classNumber, isDigitCell, _is_, isDigit}
+use Rattle.rules.specs.Sorts.{Sort, Table, Class, aToJ, capital, unlisted, class, classNumber, isDigitCell, _is_, isDigit}
 use Rattle.rules.specs.Signs.{Way, bare, oneCapital, allCapitals, separated, firstDigit, firstLower, lower, denominator, ordinalMark, inside, ownCells, lowerCells, signCells}
 use Rattle.rules.specs.Pairs.{Opens, fits, turn, closed, markOf, openAfter}
-use Rattle.rules.specs.Places.{Cause, lacksSign, breaksPair, outsideForm, sharesCells, Outcome, fault, silent, sign, classAt}
+use Rattle.rules.specs.Places.{breaksPair, Outcome, fault, silent, sign}
 use Rattle.rules.specs.Rows.{sortIn, itemIn, itemsIn, Verdict, good, bad, judge, verdictOf}
 use Rattle.rules.specs.Castilian.{castilian}
 use Rattle.rules.proofs.Finite.{every, every3, at3, and-left, and-right, implies}
 use Rattle.rules.proofs.States.{Past, free, Future}
 use Rattle.rules.proofs.Enumerations.{pasts, classes, futures, ways}
-use Rattle.rules.proofs.Sides.{rule, look, after, future, outcome-cells, row-on, verdict-on}
+use Rattle.rules.proofs.Sides.{rule, after, outcome-cells, row-on, verdict-on}
 use Rattle.rules.proofs.Places.{past}
 use Rattle.rules.proofs.Rows.{whole-row, verdict-is}
 use Rattle.entries.specs.States as state
-use Rattle.entries.specs.Entries.{word, entryOf, classIn, countIn, thenIn, oddIn, usualIn, thenOf, oddStates, bits, markNumber}
+use Rattle.entries.specs.Entries.{word, entryOf, classIn, thenIn, usualIn, thenOf, oddStates, bits, markNumber}
 use Rattle.entries.proofs.Keys.{at-every}
 use Rattle.entries.proofs.Facts.{Worded, worded}
 use Rattle.turns.specs.Acts as act
@@ -32,7 +31,6 @@ use Rattle.turns.specs.Stages.{itemsFrom, futureAt, stageAt, deedOf, settledBy,
 use Rattle.turns.proofs.Ahead.{zero-unlisted, future-step}
 use Rattle.turns.proofs.Machine.{turn-is, usual-is, stage-small, wayNumber, faultless, done-is, done-low}
 use Rattle.transcriber.specs.Passes.{ownBy, cellsBy}
-use Rattle.transcriber.proofs.Cells.{own-length, by-bare}
 
 -- THE CELLS. Which classes a way is for; the rules give it to no other.
 allowed : Way → Class → Bool

@@ -2,17 +2,17 @@
 -- (`Went`); each end of the pass is a law here, and the proof of `measure` only cites them. For any table that is `Held`. Assumes nothing.
 use mathlib.Core.Path.{_≡_, refl, sym, ap, _∙_, subst}
 use mathlib.Core.Bool.{Bool, true, false, cond}
-use mathlib.Core.List.{List, [], _∷_, _++_}
+use mathlib.Core.List.{List}
 use mathlib.Core.Logic.{⊎-elim}
 use mathlib.Core.Option.{Option, none, some}
-use Prim.Native.Nat.{ℕ, _+_, _-_, _*_, _/_, _%_, _≤_, _<_, zero-le}
+use Prim.Native.Nat.{ℕ, _+_, _*_, _/_, _%_, _≤_, _<_, zero-le}
 use native.Mathlib.Omega.{arith}
 use native.Mathlib.Nat.{zero-add}
 use lib.Dec.{eqb}
 use lib.ListN.{length, getD, length-append}
 use borrow.Author.Tests.{eq-eqb, ne-eqb}
-use Rattle.rules.specs.Sorts.{Sort, Table, class}
-use Rattle.rules.specs.Pairs.{Opens, markOf, markFits, markTurns, fits, turn, closed}
+use Rattle.rules.specs.Sorts.{Table, class}
+use Rattle.rules.specs.Pairs.{Opens, markOf, fits, turn}
 use Rattle.rules.specs.Places.{lacksSign, breaksPair, outsideForm, sharesCells, Outcome, fault, silent, sign}
 use Rattle.rules.specs.Rows.{sortIn, Verdict, good, bad, judge, verdictOf}
 use Rattle.rules.proofs.Finite.{le-or-lt}
@@ -20,15 +20,13 @@ use Rattle.rules.proofs.States.{Past, free}
 use Rattle.rules.proofs.Sides.{outcome-cells, row-on, verdict-on}
 use Rattle.rules.proofs.Rows.{whole-row}
 use Rattle.entries.specs.States.{free as freeState, states}
-use Rattle.entries.specs.Entries.{entryOf, classIn, countIn, thenIn, markIn, usualIn, thenOf, markNumber}
+use Rattle.entries.specs.Entries.{entryOf, classIn, countIn, thenIn, markIn, usualIn, markNumber}
 use Rattle.entries.proofs.Facts.{marks}
 use Rattle.turns.specs.Acts as act
 use Rattle.turns.specs.Stages.{itemsFrom, futureAt, stageAt, deedOf, settledBy, actOf}
 use Rattle.turns.proofs.Machine.{stage-small, then-small, parted, faultless, never-paired, done-low}
 use Rattle.transcriber.specs.Passes.{ownBy, cellsBy, openStates, opensOf, pairsBy, faultBy, shown, measuredOf}
-use Rattle.transcriber.specs.declared.Answer.{Answer}
-use Rattle.transcriber.specs.declared.Answer.the-variants.{NoSign, PairBroken, OutsideForm, SharesCells}
-use Rattle.transcriber.specs.declared.Measured.{Measured}
+use Rattle.transcriber.specs.declared.Answer.the-variants.{PairBroken}
 use Rattle.transcriber.specs.declared.Measured.the-variants.{Cells, Refused}
 use Rattle.transcriber.specs.declared.Pairs.{Pairs}
 use Rattle.transcriber.specs.declared.Pairs.the-variants.{Stand, Broken}

@@ -1,7 +1,7 @@
 -- The pair rule over bits is that of the rules: which kinds are open is a number below 2 ^ kinds, and what a mark does to it is one test over all of
 -- them. In order: the kind and the side of a mark, from its number; the cases of `pairs_after`; what they mean. Assumes nothing.
 use mathlib.Core.Path.{_≡_, refl, sym, ap, _∙_, fun-ext}
-use mathlib.Core.Bool.{Bool, true, false, _&&_, _||_, not, cond, Bool·beq, true≢false}
+use mathlib.Core.Bool.{Bool, true, false, _||_, not, cond, Bool·beq, true≢false}
 use mathlib.Core.List.{List, [], _∷_}
 use mathlib.Core.Logic.{⊎-elim}
 use mathlib.Core.Option.{Option, none, some}
@@ -9,7 +9,7 @@ use Prim.Native.Nat.{ℕ, suc, _+_, _-_, _*_, _/_, _%_, _^_, _≤_, _<_}
 use native.Mathlib.Omega.{arith}
 use lib.Dec.{T, eqb, ltb, leb, eqb→eq, ltb→lt, leb→le}
 use borrow.Author.Tests.{eq-eqb, ne-eqb, lt-ltb, le-ltb}
-use Rattle.rules.specs.Pairs.{kinds, Opens, mayStand, leavesOpen, markFits, markTurns, closed, closedBelow}
+use Rattle.rules.specs.Pairs.{kinds, markFits, markTurns, closed, closedBelow}
 use Rattle.rules.proofs.Finite.{le-or-lt, beq-same, false-of, holds, Hold, hold}
 use Rattle.entries.specs.Entries.{markNumber}
 use Rattle.entries.proofs.Facts.{marks}

@@ -5,8 +5,8 @@ use mathlib.Core.Bool.{Bool, true, false, _&&_, _||_, not, cond, Bool·beq}
 use mathlib.Core.List.{List, [], _∷_}
 use Prim.Native.Nat.{ℕ, zero, suc, _+_, _≤_}
 use native.Mathlib.Numerals.{add-one}
-use lib.Dec.{T, eqb}
-use lib.ListN.{length, drop, getD, drop-of-length-le}
+use lib.Dec.{T}
+use lib.ListN.{length, getD, drop-of-length-le}
 use Rattle.rules.specs.Sorts.{Table, Class, unlisted, aStop, aBar, class, _is_, isDigit, isOrdinal}
 use Rattle.rules.specs.Rows.{sortIn, itemIn, itemsIn}
 use Rattle.rules.specs.Castilian.{castilian}

@@ -3,13 +3,13 @@
 use mathlib.Core.Path.{_≡_, refl, sym, ap, _∙_, subst}
 use mathlib.Core.Bool.{Bool, true, false, _&&_, _||_, not, cond, true≢false}
 use mathlib.Core.List.{List, [], _∷_}
-use Prim.Native.Nat.{ℕ, _+_, _*_, _/_, _%_, _^_, _≤_, _<_}
+use Prim.Native.Nat.{ℕ, _+_, _*_, _/_, _%_, _^_, _<_}
 use native.Mathlib.Omega.{arith}
-use lib.Dec.{T, eqb, ltb, leb, eqb→eq, ltb→lt}
+use lib.Dec.{T, eqb, ltb, eqb→eq, ltb→lt}
 use borrow.Author.Tests.{ne-eqb}
 use Rattle.rules.specs.Sorts.{Class, classNumber}
 use Rattle.rules.specs.Signs.{Way}
-use Rattle.rules.specs.Places.{Cause, lacksSign, breaksPair, outsideForm, sharesCells, Outcome, fault, silent, sign}
+use Rattle.rules.specs.Places.{lacksSign, breaksPair, outsideForm, sharesCells, Outcome, fault, silent, sign}
 use Rattle.rules.proofs.Finite.{every, every2, at2, every3, at3, implies, hold, holds, Hold}
 use Rattle.rules.proofs.States.{Past, Future}
 use Rattle.rules.proofs.Enumerations.{pasts, classes, futures, ways}

@@ -1,14 +1,14 @@
 -- Classes that are told by the code point alone: a list and a range of code points that are, in a profile's table, all of a class.
 -- Assumes nothing.
 use mathlib.Core.Path.{_≡_, refl, sym, ap, _∙_, subst}
-use mathlib.Core.Logic.{_⊎_, inl, inr, ⊎-elim}
+use mathlib.Core.Logic.{⊎-elim}
 use mathlib.Core.Bool.{Bool, true, false, _&&_, _||_, Bool·beq, true≢false}
-use mathlib.Core.List.{List, [], _∷_, _++_}
+use mathlib.Core.List.{List, [], _∷_}
 use Prim.Native.Nat.{ℕ, _+_, _-_, _≤_, _<_}
 use native.Mathlib.Omega.{arith}
 use lib.Dec.{T, eqb, leb, ltb, eqb→eq, leb→le, ltb→lt}
 use borrow.Author.Tests.{le-leb, lt-leb, le-ltb, lt-ltb}
-use Rattle.rules.specs.Sorts.{Sort, noSign, Item, Table, Class, unlisted, class, isDigitCell}
+use Rattle.rules.specs.Sorts.{Sort, noSign, Item, Table, Class, unlisted, class}
 use Rattle.rules.specs.Rows.{sortIn}
 use Rattle.rules.proofs.Finite.{every, and-left, and-right, beq-same}
 use Rattle.entries.proofs.Keys.{among, hit}

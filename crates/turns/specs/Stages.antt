@@ -1,17 +1,17 @@
 -- What the functions of this crate promise, in the rules' words. In order: what stands at and from a place of a text; the state of a place, from
 -- what stands before it and from it on; the deed there. Past, future and `rule` are those of the rules' proofs (crates/rules/proofs/Sides.antt):
 -- inner promises may speak of them, the public one does not. Assumes nothing.
-use mathlib.Core.Bool.{Bool, true, false, _||_, cond}
-use mathlib.Core.List.{List, [], _∷_}
+use mathlib.Core.Bool.{Bool, false, _||_, cond}
+use mathlib.Core.List.{List}
 use Prim.Native.Nat.{ℕ, _+_, _*_}
 use lib.Dec.{eqb}
 use lib.ListN.{drop, getD}
 use Rattle.rules.specs.Sorts.{Item, Table, Class, aToJ, otherSmall, capital, aStop, aBar, class, _is_, isDigit, isOrdinal}
 use Rattle.rules.specs.Signs.{Way, bare, oneCapital, allCapitals, separated, firstDigit, firstLower, lower, denominator, ordinalMark, inside}
-use Rattle.rules.specs.Places.{Cause, lacksSign, breaksPair, outsideForm, sharesCells, Outcome, fault, silent, sign}
+use Rattle.rules.specs.Places.{lacksSign, breaksPair, outsideForm, sharesCells, Outcome, fault, silent, sign}
 use Rattle.rules.specs.Rows.{sortIn, itemsIn}
 use Rattle.rules.proofs.States.{Past, free, lone, caps, mixed, plain-on, past-on, under-one, under, past-bar, past-stop, past-point, past-dash, past-hyphen, past-feminine, past-percent, Future}
-use Rattle.rules.proofs.Sides.{caps-next, mixed-next, form-next, digit-next, mark-next, future, rule, after}
+use Rattle.rules.proofs.Sides.{caps-next, mixed-next, form-next, digit-next, mark-next, future}
 use Rattle.entries.specs.States as state
 use Rattle.turns.specs.Acts as act
 use Rattle.turns.specs.Deeds.{deeds}

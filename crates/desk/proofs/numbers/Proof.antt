@@ -1,5 +1,5 @@
 -- `numbers`: in each arm antt computes both sides. Assumes nothing.
-use mathlib.Core.Path.{_≡_, sym, ap}
+use mathlib.Core.Path.{sym, ap}
 use Rattle.rules.specs.Refusals.{numberOf, secondOf}
 use Rattle.transcriber.specs.Promise.{numbersOf}
 use Rattle.desk.specs.Shows.{shownOf}

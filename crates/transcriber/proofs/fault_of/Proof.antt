@@ -1,5 +1,5 @@
 -- `fault_of`: a fault that is none of the first two is the third. Assumes nothing.
-use mathlib.Core.Path.{_≡_, sym}
+use mathlib.Core.Path.{sym}
 use Rattle.transcriber.specs.Passes.{faults, faultBy}
 use Rattle.transcriber.specs.declared.Answer.the-variants.{SharesCells}
 use Rattle.transcriber.proofs.Cells.{rest-none}

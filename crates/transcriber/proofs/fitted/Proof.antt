@@ -1,6 +1,4 @@
 -- `fitted`: the text is accepted and its row has n cells (`measured-cells`), so `write` may be asked. Assumes nothing.
-use mathlib.Core.Path.{_≡_, sym}
-use Prim.Native.Nat.{ℕ}
 use native.Mathlib.Omega.{arith}
 use Rattle.rules.specs.Castilian.{castilian}
 use Rattle.transcriber.proofs.Answering.{measured-cells, cramped, fitting}

@@ -1,10 +1,9 @@
 -- `measure`: between two turns what is still to come gives the whole answer (`Mid`). In a turn the pair rule comes first (`passed`), then the deed
 -- (`went`); each is one law where the code's ways meet. The measure is how much of the text is left. Assumes nothing.
-use mathlib.Core.Path.{_≡_, refl, sym, ap, _∙_, subst}
-use mathlib.Core.Bool.{Bool, true}
+use mathlib.Core.Path.{_≡_, sym, ap, _∙_, subst}
 use mathlib.Core.List.{List}
 use mathlib.Core.Logic.{⊎-elim}
-use Prim.Native.Nat.{ℕ, _+_, _-_, _*_, _%_, _≤_, _<_}
+use Prim.Native.Nat.{ℕ, _+_, _-_, _%_, _≤_, _<_}
 use native.Mathlib.Omega.{arith}
 use borrow.Author.Needs.{needs}
 use lib.ListN.{length, getD}
@@ -12,8 +11,7 @@ use Rattle.rules.specs.Castilian.{castilian}
 use Rattle.rules.proofs.States.{Past}
 use Rattle.entries.specs.Entries.{entryOf, classIn, countIn, thenIn, markIn, usualIn}
 use Rattle.turns.specs.Stages.{futureAt, deedOf, settledBy}
-use Rattle.transcriber.specs.Passes.{cellsBy, faultBy, measuredOf}
-use Rattle.transcriber.specs.declared.Measured.{Measured}
+use Rattle.transcriber.specs.Passes.{cellsBy}
 use Rattle.transcriber.specs.declared.Measured.the-variants.{Refused}
 use Rattle.transcriber.proofs.Going.{held}
 use Rattle.transcriber.proofs.Measuring.{Mid, Passed, Went, some-number, passed-none, passed-mark, not-passed, mark-small, state-small, act-is, went-deed, went-usual, mid-start, mid-broken, mid-fault, mid-on, mid-done, mid-open}

@@ -1,6 +1,5 @@
 -- `pairs_after`: the four cases of the pair rule (proofs/Pairing.antt). Assumes nothing.
-use mathlib.Core.Path.{_≡_, sym}
-use Prim.Native.Nat.{ℕ, _≤_}
+use Prim.Native.Nat.{_^_, _≤_}
 use native.Mathlib.Omega.{arith}
 use Rattle.transcriber.proofs.Pairing.{kindBy, kind-small, bit-is, bit-small, bit-below, opens-again, opens, closes, closes-none}
 use borrow.Author.Needs.{needs}
@@ -37,7 +36,8 @@ returns-2 c = let s = c .before .before in opens (s .args .opened) (s .args .mar
 sub-t11 : tie.Need-sub-t11
 sub-t11 c =
     let s = c .before .before in
-    let b : _≤_ _ _ = bit-below (s .args .opened) (kindBy (s .args .mark)) (s .pre .0) (kind-small (s .args .mark) (s .pre .2)) (c .if3 .taken) in
+    let b : 2 ^ kindBy (s .args .mark) ≤ s .args .opened =
+    bit-below (s .args .opened) (kindBy (s .args .mark)) (s .pre .0) (kind-small (s .args .mark) (s .pre .2)) (c .if3 .taken) in
     omega (arith, bit-is (s .args .opened) (s .args .mark) (s .pre .2), b)
 
 -- src/lib.rt:162:9

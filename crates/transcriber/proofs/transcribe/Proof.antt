@@ -1,9 +1,9 @@
 -- `transcribe`: a print that is too long is longer still when normalised; one that the rules accept is normal, and so is its own text; any other is
 -- refused as it is, where it is normal, and otherwise goes through the copy. Assumes nothing.
-use mathlib.Core.Path.{_≡_, sym, ap, _∙_, subst}
-use mathlib.Core.Bool.{Bool, true}
+use mathlib.Core.Path.{_≡_, sym, _∙_, subst}
+use mathlib.Core.Bool.{Bool}
 use mathlib.Core.List.{List}
-use Prim.Native.Nat.{ℕ, _≤_, _<_}
+use Prim.Native.Nat.{ℕ, _≤_}
 use native.Mathlib.Omega.{arith}
 use lib.ListN.{length}
 use Rattle.rules.specs.Castilian.{castilian}
@@ -16,7 +16,7 @@ use Rattle.normal.specs.Same.{TellsNormal}
 use Rattle.transcriber.specs.Promise.{Transcribed}
 use Rattle.transcriber.specs.Passes.{measuredOf, answerOf, outOf}
 use Rattle.transcriber.specs.declared.Answer.{Answer}
-use Rattle.transcriber.specs.declared.Measured.the-variants.{Cells, Refused}
+use Rattle.transcriber.specs.declared.Measured.the-variants.{Cells}
 use Rattle.transcriber.proofs.Answering.{measured-cells, measured-refused, carried, promised-long}
 use borrow.Author.Needs.{needs}
 use Rattle.transcriber.proofs.transcribe.Statement.{statement}

@@ -1,6 +1,5 @@
 -- `transcribe_normal`: what the first pass found, fitted or refused. Assumes nothing.
-use mathlib.Core.Path.{_≡_, sym, _∙_}
-use Prim.Native.Nat.{ℕ}
+use mathlib.Core.Path.{sym, _∙_}
 use Rattle.rules.specs.Castilian.{castilian}
 use Rattle.transcriber.proofs.Answering.{measured-refused}
 use borrow.Author.Needs.{needs}

@@ -1,20 +1,19 @@
 -- `write`: between two turns the lent row, with what is still to come laid behind what is written, is the row that it will be (`Wid`). Either way of
 -- writing a sign lends the rest of the row to its writer and is one turn (`wid-on`). The measure is how much of the text is left.
 -- Assumes nothing.
-use mathlib.Core.Path.{_≡_, refl, sym, ap, _∙_, subst}
-use mathlib.Core.Bool.{Bool, true}
+use mathlib.Core.Path.{_≡_, sym, ap, _∙_, subst}
+use mathlib.Core.Bool.{true}
 use mathlib.Core.List.{List}
 use mathlib.Core.Logic.{⊎-elim}
-use Prim.Native.Nat.{ℕ, _+_, _-_, _/_, _%_, _≤_, _<_}
+use Prim.Native.Nat.{ℕ, _+_, _-_, _/_, _%_, _<_}
 use native.Mathlib.Omega.{arith}
 use borrow.Author.Needs.{needs}
-use lib.ListN.{length, take, drop, getD}
+use lib.ListN.{length, getD}
 use Rattle.rules.specs.Castilian.{castilian}
 use Rattle.rules.specs.Cells.{Row}
 use Rattle.rules.proofs.States.{Past}
 use Rattle.rules.proofs.Sides.{outcome-cells}
 use Rattle.entries.specs.Entries.{entryOf, classIn, thenIn, usualIn}
-use Rattle.rows.specs.Laid.{laid}
 use Rattle.turns.specs.Acts as act
 use Rattle.turns.specs.Stages.{futureAt, stageAt, deedOf, settledBy, actOf}
 use Rattle.transcriber.specs.Passes.{ownBy, cellsBy}

@@ -1,13 +1,12 @@
 -- `capitals_follow`: a capital stands there and no small letter is in its run (`capitals-at`). Assumes nothing.
-use mathlib.Core.Path.{_≡_, refl, sym, ap, _∙_}
-use mathlib.Core.Bool.{Bool, true, false, _&&_, not}
+use mathlib.Core.Path.{_≡_, sym, ap, _∙_}
+use mathlib.Core.Bool.{true, false, not}
 use Prim.Native.Nat.{ℕ}
 use borrow.Author.Tests.{not-true, not-false}
 use Rattle.rules.specs.Castilian.{castilian}
 use Rattle.rules.specs.Sorts.{class}
 use Rattle.rules.specs.Rows.{sortIn}
-use Rattle.rules.proofs.Sides.{mixed-next}
-use Rattle.turns.specs.Stages.{isCapital, classAt, futureAt}
+use Rattle.turns.specs.Stages.{isCapital, classAt}
 use Rattle.turns.proofs.Ahead.{zero-unlisted, capitals-at}
 use borrow.Author.Needs.{needs}
 use Rattle.turns.proofs.capitals_follow.Statement.{statement}

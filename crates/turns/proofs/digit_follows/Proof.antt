@@ -1,5 +1,5 @@
 -- `digit_follows`: what stands directly at a place is told by its code point (`digit-at`). Assumes nothing.
-use mathlib.Core.Path.{_≡_, sym, ap, _∙_}
+use mathlib.Core.Path.{sym, ap, _∙_}
 use Prim.Native.Nat.{ℕ}
 use Rattle.rules.specs.Castilian.{castilian}
 use Rattle.rules.specs.Sorts.{class, isDigit}

@@ -1,11 +1,11 @@
 -- `ends_form`: the full stop and U+2044 are the only code points of their classes (`neither`). Assumes nothing.
 use mathlib.Core.Path.{_≡_, refl, sym, ap, _∙_}
 use mathlib.Core.Bool.{false}
-use mathlib.Core.List.{List, [], _∷_}
+use mathlib.Core.List.{[], _∷_}
 use Prim.Native.Nat.{ℕ, zero-le}
 use Rattle.rules.specs.Castilian.{castilian}
 use Rattle.rules.specs.Cells.{dots}
-use Rattle.rules.specs.Sorts.{Class, class, isDigitCell, _is_, aStop, aBar}
+use Rattle.rules.specs.Sorts.{class, isDigitCell, _is_, aStop, aBar}
 use Rattle.rules.specs.Rows.{sortIn}
 use borrow.Author.Tests.{ne-eqb}
 use Rattle.turns.specs.Stages.{endsForm}

@@ -1,13 +1,11 @@
 -- `is_digit`: the code points of the list and of the range are all that the sign list has of its digits. Assumes nothing.
-use mathlib.Core.Path.{_≡_, refl, sym, ap, _∙_}
-use mathlib.Core.Bool.{Bool}
-use mathlib.Core.List.{List, [], _∷_}
+use mathlib.Core.Path.{_≡_, refl, sym, _∙_}
+use mathlib.Core.List.{List, []}
 use Prim.Native.Nat.{ℕ}
 use Rattle.rules.specs.Castilian.{castilian}
 use Rattle.rules.specs.Cells.{dots}
 use Rattle.rules.specs.Sorts.{class, isDigitCell, isDigit}
 use Rattle.rules.specs.Rows.{sortIn}
-use Rattle.entries.proofs.Keys.{rest-none}
 use Rattle.turns.proofs.Points.{told, told-in, told-below, told-above, known}
 use Rattle.turns.proofs.is_digit.Statement.{statement}
 use Rattle.turns.proofs.is_digit.Tie as tie

@@ -1,6 +1,5 @@
 -- `is_ordinal`: the code points of the list and of the range are all that the sign list has of º and ª. Assumes nothing.
 use mathlib.Core.Path.{_≡_, refl, sym, ap, _∙_}
-use mathlib.Core.Bool.{Bool}
 use mathlib.Core.List.{List, [], _∷_}
 use Prim.Native.Nat.{ℕ, zero-le}
 use Rattle.rules.specs.Castilian.{castilian}
@@ -8,7 +7,7 @@ use Rattle.rules.specs.Cells.{dots}
 use Rattle.rules.specs.Sorts.{class, isDigitCell, isOrdinal}
 use Rattle.rules.specs.Rows.{sortIn}
 use Rattle.entries.proofs.Keys.{rest-none}
-use Rattle.turns.proofs.Points.{told, told-in, told-below, told-above, known}
+use Rattle.turns.proofs.Points.{told, told-above, known}
 use Rattle.turns.proofs.is_ordinal.Statement.{statement}
 use Rattle.turns.proofs.is_ordinal.Tie as tie
 

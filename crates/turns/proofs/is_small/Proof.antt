@@ -1,6 +1,5 @@
 -- `is_small`: the code points of the list and of the range are all that the sign list has of its small letters. Assumes nothing.
 use mathlib.Core.Path.{_≡_, refl, sym, ap, _∙_}
-use mathlib.Core.Bool.{Bool}
 use mathlib.Core.List.{List, [], _∷_}
 use Prim.Native.Nat.{ℕ}
 use Rattle.rules.specs.Castilian.{castilian}

@@ -1,5 +1,5 @@
 -- `point_at`: past the end the default is 0. Assumes nothing.
-use mathlib.Core.Path.{_≡_, sym}
+use mathlib.Core.Path.{sym}
 use lib.ListN.{List·getD-eq-default}
 use borrow.Author.Needs.{needs}
 use Rattle.turns.proofs.point_at.Statement.{statement}

@@ -1,6 +1,5 @@
 -- `settled`: each question is decided by what its function found; anything else stays as it is. Assumes nothing.
 use mathlib.Core.Bool.{true, false}
-use Prim.Native.Nat.{ℕ}
 use Rattle.rules.specs.Castilian.{castilian}
 use Rattle.rules.proofs.States.{Future}
 use Rattle.turns.specs.Stages.{futureAt}

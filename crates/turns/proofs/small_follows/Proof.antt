@@ -1,10 +1,9 @@
 -- `small_follows`: what is asked of the first place is asked of each place that is reached, since a capital leaves it open. Assumes nothing.
 use mathlib.Core.Path.{_≡_, refl, sym, ap, _∙_}
-use mathlib.Core.Bool.{Bool, true, false}
-use Prim.Native.Nat.{ℕ, _+_, _-_, _≤_}
+use Prim.Native.Nat.{_-_}
 use borrow.Author.Needs.{needs}
 use borrow.Author.Tests.{not-true, not-false}
-use lib.ListN.{length, getD}
+use lib.ListN.{length}
 use Rattle.rules.specs.Castilian.{castilian}
 use Rattle.rules.proofs.Sides.{mixed-next}
 use Rattle.turns.specs.Stages.{futureAt}
