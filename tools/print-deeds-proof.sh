@@ -25,6 +25,7 @@ use mathlib.Core.List.{List, [], _∷_}
 use Prim.Native.Nat.{ℕ}
 use lib.ListN.{getD}
 use Rattle.entries.proofs.Keys.{rest-none}
+use Rattle.turns.specs.Acts.{noSign}
 use Rattle.turns.specs.Deeds.{deeds}
 use Rattle.turns.proofs.Places.{upto, only-last}
 use Rattle.turns.proofs.table.deed_at.Statement.{statement}
@@ -32,7 +33,7 @@ use Rattle.turns.proofs.table.deed_at.Tie as tie
 
 -- what the table has at a place
 abbrev entry : ℕ → ℕ
-entry n = getD deeds n 0
+entry n = getD deeds n noSign
 
 other : tie.Need-returns-$count
 unfolding deeds upto

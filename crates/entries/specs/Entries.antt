@@ -68,9 +68,9 @@ thenIn e = e / thenAt % 16
 abbrev pub oddIn : ℕ → ℕ
 oddIn e = e / oddAt
 
--- is it written as usual in this state: with its own cells alone, and then the state is `thenIn`
+-- is it written as usual in this state: with its own cells alone, and then the state is `thenIn`. (There is room for 64 states.)
 abbrev pub usualIn : ℕ → ℕ → Bool
-usualIn e s = eqb (oddIn e / 2 ^ s % 2) 0
+usualIn e s = eqb (oddIn e / 2 ^ (s % 64) % 2) 0
 
 -- AS USUAL. The state after a code point that is written with its own cells alone, as most are in most states.
 unfoldable pub thenOf : Class → ℕ

@@ -3,7 +3,6 @@
 ghost use mathlib.Core.Path.{_≡_};
 ghost use Prim.Native.Nat.{_<_, _≤_};
 ghost use Rattle.rules.specs.Castilian.{castilian};
-ghost use Rattle.entries.specs.States.{states};
 ghost use Rattle.entries.specs.Entries.{entryOf, classIn, countIn, firstIn, secondIn, thirdIn, lowerIn, markIn, thenIn, usualIn};
 
 mod list;
@@ -89,6 +88,8 @@ const THEN_PLACES: u64 = 16;
 
 const ODD: u64 = 274877906944;
 
+const STATE_PLACES: usize = 64;
+
 // Code points below this stand in one table that has no gaps worth speaking of: once compiled, the look-up is one read.
 const DENSE: u32 = 256;
 
@@ -156,10 +157,9 @@ pub fn then_in(entry: u64) -> usize
     (entry / THEN % THEN_PLACES) as usize
 }
 
-// Is it written as usual in this state: with its own cells alone?
+// Is it written as usual in this state: with its own cells alone? (A state is below 64, so that the remainder is the state.)
 pub fn is_usual(entry: u64, state: usize) -> bool
-    requires { ⌜ state < states ⌝ }
     ensures { λ r. ⌜ r ≡ usualIn entry state ⌝ }
 {
-    (entry / ODD >> state) % 2 == 0
+    (entry / ODD >> (state % STATE_PLACES)) % 2 == 0
 }

@@ -1,2 +1,4 @@
 pub mod Becoming
 pub mod Turns
+pub mod Lengths
+pub mod Unique

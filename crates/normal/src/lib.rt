@@ -9,6 +9,7 @@ ghost use lib.ListN.{length};
 ghost use Rattle.rows.specs.Laid.{laid};
 ghost use Rattle.rules.specs.Normal.{replacements, replacedBy, isDigitPoint, isOrdinalPoint, becomes, normalOf};
 ghost use Rattle.rules.specs.Refusals.{reported};
+ghost use Rattle.normal.specs.Copies.{normalisedOf, copyOf};
 ghost use Rattle.normal.specs.Same.{TellsNormal, TellsKept};
 
 // The code points that normalising knows.
@@ -42,6 +43,15 @@ const RIGHT_ANGLE: u32 = 0x203a; // ›
 
 // "A length above 4,294,967,295 is reported as that number."
 const GREATEST_REPORTED: usize = 4294967295;
+
+// "normalised text above 4,096 code points"
+const LONGEST_TEXT: usize = 4096;
+
+// What `normalise` made: a text of so many code points; or nothing, for want of room for so many.
+pub enum Normalised {
+    Text(usize),
+    NoRoom(usize),
+}
 
 // A digit is 0 to 9 and nothing else.
 fn is_digit(point: u32) -> bool
@@ -159,7 +169,7 @@ pub fn is_normal(print: &[u32]) -> bool
 }
 
 // Writes the normalised print from the first element on: what each code point becomes goes to its own stretch. The answer is its length.
-pub fn normalise(print: &[u32], text: &mut [u32]) -> usize
+fn copy(print: &[u32], text: &mut [u32]) -> usize
     requires { ⌜ length (normalOf (now print)) ≤ length (now text) ⌝ }
     ensures { λ r. ⌜ (r ≡ length (normalOf (now (print .entry)))) × (now (text .exit) ≡ laid (normalOf (now (print .entry))) (now (text .entry))) ⌝ }
 {
@@ -173,4 +183,19 @@ pub fn normalise(print: &[u32], text: &mut [u32]) -> usize
         i += 1;
     }
     n
+}
+
+// The normalised print, written to what is lent from its first element on, with its length; or, where it is above 4,096 code points or there is no room for
+// it, its length as it is reported, and what is lent is as it was.
+pub fn normalise(print: &[u32], text: &mut [u32]) -> Normalised
+    ensures { λ r. ⌜ (r ≡ normalisedOf (now (print .entry)) (length (now (text .entry)))) × (now (text .exit) ≡ copyOf (now (print .entry)) (now (text .entry))) ⌝ }
+{
+    let length = normal_length(print);
+    if LONGEST_TEXT < length {
+        return Normalised::NoRoom(length);
+    }
+    if text.len() < length {
+        return Normalised::NoRoom(length);
+    }
+    Normalised::Text(copy(print, text))
 }

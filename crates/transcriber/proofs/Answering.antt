@@ -1,11 +1,10 @@
 -- From what the passes find to the promise. In order: the ends of `fitted` and `transcribe_normal`, over plain values; the answer to a normalised text
--- is the rules' (`carried`); lengths as they are reported. For any table. Assumes nothing.
+-- is the rules' (`carried`). For any table. Assumes nothing.
 use mathlib.Core.Path.{_≡_, refl, sym, ap, _∙_, subst}
 use mathlib.Core.List.{List}
 use mathlib.Core.Logic.{⊎-elim}
 use Prim.Native.Nat.{ℕ, _≤_, _<_}
 use native.Mathlib.Omega.{arith}
-use native.Mathlib.Nat.{min-eq-left, min-eq-right}
 use lib.ListN.{length}
 use borrow.Author.Tests.{le-leb, lt-leb}
 use Rattle.rules.specs.Cells.{Text, Row}
@@ -94,14 +93,3 @@ module _ (tb : Table) (p : Text) (lent : List ℕ) where
   promised-long n l e =
       refused (TooLong n) (tooLong n) refl
       (subst (λ (k : ℕ). PrintAnswer tb p (length lent) (refuses (tooLong k))) (sym e) (print-refused (tooLong (reported (length (normalOf p)))) (too-long l)))
-
--- LENGTHS as they are reported
-pub reported-le : (n : ℕ) → reported n ≤ n
-reported-le n =
-    ⊎-elim (λ l. let e : reported n ≡ n = min-eq-left l in omega (arith, e)) (λ l. let e : reported n ≡ 4294967295 = min-eq-right (omega arith) in omega (arith, e, l))
-    (le-or-lt n 4294967295)
-
-pub reported-short : (n : ℕ) → reported n ≤ longestText → n ≤ longestText
-reported-short n h =
-    ⊎-elim (λ l. let e : reported n ≡ n = min-eq-left l in omega (arith, e, h)) (λ l. let e : reported n ≡ 4294967295 = min-eq-right (omega arith) in absurd (omega (arith, e, h)))
-    (le-or-lt n 4294967295)

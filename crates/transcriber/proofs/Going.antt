@@ -125,7 +125,7 @@ module _ (tb : Table) (h : Held tb) where
         → thenIn (entryOf tb (getD text i 0)) * act.ways + act.bareWay ≡ settledBy (deedOf s (classIn (entryOf tb (getD text i 0)))) ahead
     usual-deed s l e =
         let c : ℕ = getD text i 0 in
-        let u : eqb (bits (oddStates (class sortHere)) / 2 ^ s % 2) 0 ≡ true = ap (λ (o : ℕ). eqb (o / 2 ^ s % 2) 0) (sym (h .words .odd-is c)) ∙ e in
+        let u : eqb (bits (oddStates (class sortHere)) / 2 ^ (s % 64) % 2) 0 ≡ true = ap (λ (o : ℕ). eqb (o / 2 ^ (s % 64) % 2) 0) (sym (h .words .odd-is c)) ∙ e in
         ap (λ (n : ℕ). n * act.ways + act.bareWay) (h .words .then-is c)
         ∙ sym (usual-is s (class sortHere) ahead l u)
         ∙ sym (ap (λ (k : ℕ). settledBy (deedOf s k) ahead) (h .words .class-is c))

@@ -2,6 +2,7 @@
 // Two passes over the normalised text: `measure` counts the cells or finds the first refusal, `write` writes. So nothing is written before
 // all is known to fit.
 use entries::FREE;
+use normal::Normalised;
 use turns::ALL_CAPITALS;
 use turns::BARE;
 use turns::FIRST_DIGIT;
@@ -258,17 +259,16 @@ fn transcribe_normal(text: &[u32], row: &mut [u8]) -> Answer
     }
 }
 
-// A print that normalising changes: through a copy.
+// A print that normalising changes: through a copy, which has room for the longest text.
 fn transcribe_copy(print: &[u32], row: &mut [u8]) -> Answer
     ensures { λ r. ⌜ Transcribed castilian (now (print .entry)) (now (row .entry)) r (now (row .exit)) ⌝ }
 {
-    let length = normal::normal_length(print);
-    if LONGEST_TEXT < length {
-        return Answer::TooLong(length);
-    }
     let mut text = [0u32; 4096];
-    let n = normal::normalise(print, &mut text);
-    transcribe_normal(&text[..n], row)
+    let normalised = normal::normalise(print, &mut text);
+    match normalised {
+        Normalised::Text(n) => transcribe_normal(&text[..n], row),
+        Normalised::NoRoom(n) => Answer::TooLong(n),
+    }
 }
 
 // Print to cells: the answer of the rules for any print and any lent row, which then holds the cells from its first element on and is otherwise

@@ -3,7 +3,7 @@
 -- inner promises may speak of them, the public one does not. Assumes nothing.
 use mathlib.Core.Bool.{Bool, false, _||_, cond}
 use mathlib.Core.List.{List}
-use Prim.Native.Nat.{ℕ, _+_, _*_}
+use Prim.Native.Nat.{ℕ, _+_, _*_, _%_}
 use lib.Dec.{eqb}
 use lib.ListN.{drop, getD}
 use Rattle.rules.specs.Sorts.{Item, Table, Class, aToJ, otherSmall, capital, aStop, aBar, class, _is_, isDigit, isOrdinal}
@@ -55,10 +55,10 @@ stageAt past-hyphen f = state.hyphened
 stageAt past-feminine f = state.guarded
 stageAt past-percent f = state.free
 
--- THE DEED: what the table says
+-- THE DEED: what the table says. (There is room for 16 states and 16 classes.)
 unfoldable pub deedOf : ℕ → ℕ → ℕ
 unfolding deeds
-deedOf s c = getD deeds (s * 16 + c) 0
+deedOf s c = getD deeds (s % 16 * 16 + c % 16) act.noSign
 
 -- the questions, decided by what follows
 unfoldable pub settledBy : ℕ → Future → ℕ

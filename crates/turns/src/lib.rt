@@ -20,7 +20,6 @@ ghost use Rattle.rules.specs.Castilian.{castilian};
 ghost use Rattle.rules.specs.Sorts.{class, isDigit, isOrdinal};
 ghost use Rattle.rules.specs.Rows.{sortIn};
 ghost use Rattle.rules.proofs.Sides.{caps-next, mixed-next, form-next, digit-next};
-ghost use Rattle.entries.specs.States.{states};
 ghost use Rattle.turns.specs.Stages.{isSmall, isCapital, futureAt, deedOf, settledBy, endsForm};
 ghost use Rattle.turns.specs.Acts.{questions};
 
@@ -100,8 +99,12 @@ pub const OUTSIDE_FORM: usize = 93;
 
 pub const SHARES_CELLS: usize = 94;
 
-// A row of the table for each state.
+// A row of the table for each state; how many states there is room for; how many entries there are.
 const CLASS_PLACES: usize = 16;
+
+const STATE_PLACES: usize = 16;
+
+const DEEDS: usize = 176;
 
 // The code points that reading ahead knows.
 const DIGIT_0: u32 = 0x30; // 0
@@ -240,12 +243,16 @@ fn form_follows(text: &[u32], from: usize) -> bool
     false
 }
 
-// What the table says of a state and a class: a deed that is settled, or a question.
+// What the table says of a state and a class: a deed that is settled, or a question. (States and classes are below 16, so that the remainders are
+// they; what the table does not have is no sign.)
 pub fn deed_of(state: usize, class: usize) -> usize
-    requires { ⌜ (state < states) × (class < 16) ⌝ }
     ensures { λ r. ⌜ r ≡ deedOf state class ⌝ }
 {
-    table::deed_at(state * CLASS_PLACES + class)
+    let place = state % STATE_PLACES * CLASS_PLACES + class % CLASS_PLACES;
+    if DEEDS <= place {
+        return NO_SIGN;
+    }
+    table::deed_at(place)
 }
 
 // The deed, once what follows has decided: `next` is the place after the one at hand.

@@ -14,7 +14,7 @@ use Rattle.turns.specs.Stages.{futureAt, deedOf, settledBy}
 use Rattle.transcriber.specs.Passes.{cellsBy}
 use Rattle.transcriber.specs.declared.Measured.the-variants.{Refused}
 use Rattle.transcriber.proofs.Going.{held}
-use Rattle.transcriber.proofs.Measuring.{Mid, Passed, Went, some-number, passed-none, passed-mark, not-passed, mark-small, state-small, act-is, went-deed, went-usual, mid-start, mid-broken, mid-fault, mid-on, mid-done, mid-open}
+use Rattle.transcriber.proofs.Measuring.{Mid, Passed, Went, some-number, passed-none, passed-mark, not-passed, mark-small, act-is, went-deed, went-usual, mid-start, mid-broken, mid-fault, mid-on, mid-done, mid-open}
 use Rattle.transcriber.proofs.measure.Statement.{statement}
 use Rattle.transcriber.proofs.measure.Tie as tie
 use Rattle.transcriber.proofs.measure.Reads as reads
@@ -187,9 +187,7 @@ returns c =
 
 -- src/lib.rt:196:12
 is-usual-requires : tie.Need-is-usual-requires Inv-loop μ-loop
-is-usual-requires c κs =
-    let l = at-j c in
-    state-small castilian held (text l) (past l) (l .loop .i) (l .loop .state) (l .loop .inv .at)
+is-usual-requires c κs = search needs
 
 -- src/lib.rt:197:21
 count-in-requires : tie.Need-count-in-requires Inv-loop μ-loop
@@ -215,10 +213,7 @@ class-in-requires c κs = search needs
 
 -- src/lib.rt:200:52
 deed-of-requires : tie.Need-deed-of-requires Inv-loop μ-loop
-deed-of-requires c κs =
-    let u = c .before .before in
-    let l = at-u u in
-    (state-small castilian held (text l) (past l) (l .loop .i) (l .loop .state) (l .loop .inv .at), omega (arith, c .class-in .ensures))
+deed-of-requires c κs = search needs
 
 -- src/lib.rt:200:17
 settled-requires : tie.Need-settled-requires Inv-loop μ-loop

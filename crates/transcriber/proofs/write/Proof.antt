@@ -18,7 +18,7 @@ use Rattle.turns.specs.Acts as act
 use Rattle.turns.specs.Stages.{futureAt, stageAt, deedOf, settledBy, actOf}
 use Rattle.transcriber.specs.Passes.{ownBy, cellsBy}
 use Rattle.transcriber.proofs.Going.{held, sortHere, next, ahead, outcomeHere, state-after, cells-here, low-deed}
-use Rattle.transcriber.proofs.Measuring.{state-small, act-is, usual-goes}
+use Rattle.transcriber.proofs.Measuring.{act-is, usual-goes}
 use Rattle.transcriber.proofs.Writing.{Wid, wid-start, wid-fine, wid-room, wid-few, wid-on, wid-end}
 use Rattle.transcriber.proofs.write.Statement.{statement}
 use Rattle.transcriber.proofs.write.Tie as tie
@@ -134,9 +134,7 @@ entry-of-requires c κs = search needs
 
 -- src/lib.rt:225:12
 is-usual-requires : tie.Need-is-usual-requires Inv-loop μ-loop
-is-usual-requires c κs =
-    let l = c .before .before .before in
-    state-small castilian held (text l) (past l) (l .loop .i) (l .loop .state) (l .loop .inv .at)
+is-usual-requires c κs = search needs
 
 -- src/lib.rt:226:29
 sub-put-own : tie.Need-sub-put-own Inv-loop μ-loop
@@ -185,10 +183,7 @@ class-in-requires c κs = search needs
 
 -- src/lib.rt:229:52
 deed-of-requires : tie.Need-deed-of-requires Inv-loop μ-loop
-deed-of-requires c κs =
-    let u = c .before .before in
-    let l = at-u u in
-    (state-small castilian held (text l) (past l) (l .loop .i) (l .loop .state) (l .loop .inv .at), omega (arith, c .class-in .ensures))
+deed-of-requires c κs = search needs
 
 -- src/lib.rt:229:17
 settled-requires : tie.Need-settled-requires Inv-loop μ-loop

@@ -1,4 +1,8 @@
--- `deed_of`: the table's row of the state, at the class. Assumes nothing.
+-- `deed_of`: the table's row of the state, at the class; past its end there is no sign. Assumes nothing.
+use mathlib.Core.Path.{sym}
+use lib.ListN.{List·getD-eq-default}
+use Rattle.turns.specs.Acts.{noSign}
+use Rattle.turns.specs.Deeds.{deeds}
 use Rattle.turns.specs.Stages.{deedOf}
 use borrow.Author.Needs.{needs}
 use Rattle.turns.proofs.deed_of.Statement.{statement}
@@ -7,22 +11,27 @@ use Rattle.turns.proofs.deed_of.Reads as reads
 use Rattle.turns.proofs.deed_of.Lts as lts
 use Rattle.turns.proofs.table.deed_at.Reads as deed-at-reads
 
--- src/lib.rt:247:20
-mul-deed-at : tie.Need-mul-deed-at
-mul-deed-at c = search needs
+-- src/lib.rt:251:17
+mul-place : tie.Need-mul-place
+mul-place c = search needs
 
--- src/lib.rt:247:20
-add-deed-at : tie.Need-add-deed-at
-add-deed-at c = search needs
+-- src/lib.rt:251:17
+add-place : tie.Need-add-place
+add-place c = search needs
 
--- src/lib.rt:247:5
+-- src/lib.rt:253:9
+returns : tie.Need-returns
+unfolding deedOf deeds
+returns c = sym (List·getD-eq-default deeds noSign (c .if1 .taken))
+
+-- src/lib.rt:255:5
 deed-at-requires : tie.Need-deed-at-requires
 deed-at-requires c κs = search needs
 
--- src/lib.rt:243:1
-returns : tie.Need-returns
+-- src/lib.rt:248:1
+returns-2 : tie.Need-returns-2
 unfolding deedOf
-returns c = c .deed-at .ensures
+returns-2 c = c .deed-at .ensures
 
 pub deed-of-spec : {M : Type 1} → statement M
-deed-of-spec = tie.close (tie.spec mul-deed-at add-deed-at deed-at-requires returns)
+deed-of-spec = tie.close (tie.spec mul-place add-place returns deed-at-requires returns-2)

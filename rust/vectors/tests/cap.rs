@@ -1,0 +1,160 @@
+//! "A length above 4,294,967,295 is reported as that number": print of such a length, without the memory for it.
+//!
+//! U+2026 counts three, so 1.4 thousand million of them are enough. One block of them stands in the memory, and is mapped at one address
+//! after the other; only the last stretch is the print's own. It takes some megabytes, and x86-64 Linux.
+#![cfg(all(target_arch = "x86_64", target_os = "linux"))]
+use omdurgash::{transcribe, Number, Refusal};
+use std::ffi::{c_char, c_int, c_long, c_uint, c_void};
+use std::fs::File;
+use std::io::{Error, Write};
+use std::os::fd::{AsRawFd, FromRawFd};
+use std::{ptr, slice};
+use vectors::say;
+
+const ELLIPSIS: u32 = 0x2026;
+
+const LETTER: u32 = 'a' as u32;
+
+/// The greatest length that is reported.
+const CAP: usize = 4_294_967_295;
+
+/// The code points of a block, and its bytes.
+const BLOCK: usize = 1 << 20;
+
+const BLOCK_BYTES: usize = 4 * BLOCK;
+
+extern "C" {
+    fn memfd_create(name: *const c_char, flags: c_uint) -> c_int;
+    fn mmap(address: *mut c_void, length: usize, protection: c_int, flags: c_int, file: c_int, offset: c_long) -> *mut c_void;
+    fn munmap(address: *mut c_void, length: usize) -> c_int;
+}
+
+const PROT_NONE: c_int = 0;
+const PROT_READ: c_int = 1;
+const PROT_WRITE: c_int = 2;
+const MAP_SHARED: c_int = 0x01;
+const MAP_PRIVATE: c_int = 0x02;
+const MAP_FIXED: c_int = 0x10;
+const MAP_ANONYMOUS: c_int = 0x20;
+const MAP_NORESERVE: c_int = 0x4000;
+const MAP_FAILED: usize = usize::MAX;
+
+/// A file in the memory with one block of U+2026.
+fn block() -> Result<File, Error> {
+    // SAFETY: the name is a string of C.
+    let number = unsafe { memfd_create(c"ellipses".as_ptr(), 0) };
+    if number < 0 {
+        return Err(Error::last_os_error());
+    }
+    // SAFETY: the descriptor is new, and nobody else has it.
+    let mut file = unsafe { File::from_raw_fd(number) };
+    file.write_all(&ELLIPSIS.to_ne_bytes().repeat(BLOCK))?;
+    Ok(file)
+}
+
+/// Print that lies in mapped memory.
+struct Mapped {
+    address: *mut c_void,
+    bytes: usize,
+    points: usize,
+}
+
+/// `mmap`, with its failure as an error.
+///
+/// # Safety
+///
+/// With `MAP_FIXED`, the addresses are a part of a mapping of the caller's that nothing refers to.
+unsafe fn map(address: *mut c_void, bytes: usize, protection: c_int, flags: c_int, file: c_int) -> Result<*mut c_void, Error> {
+    // SAFETY: without MAP_FIXED no mapping is replaced; with it, what the caller has promised.
+    let mapped = unsafe { mmap(address, bytes, protection, flags, file, 0) };
+    match mapped as usize {
+        MAP_FAILED => Err(Error::last_os_error()),
+        _ => Ok(mapped),
+    }
+}
+
+impl Mapped {
+    /// Print whose normalised length is `length`: U+2026 as often as it goes, and then at most two letters.
+    fn of_normalised_length(length: usize, block: &File) -> Result<Mapped, Error> {
+        let (ellipses, letters) = (length / 3, length % 3);
+        let (blocks, rest) = (ellipses / BLOCK, ellipses % BLOCK);
+        let bytes = (blocks + 1) * BLOCK_BYTES;
+        let free = MAP_PRIVATE | MAP_ANONYMOUS | MAP_NORESERVE;
+        // SAFETY: the addresses are the system's choice.
+        let address = unsafe { map(ptr::null_mut(), bytes, PROT_NONE, free, -1)? };
+        // From here on, an error unmaps it.
+        let mapped = Mapped { address, bytes, points: ellipses + letters };
+        for i in 0..blocks {
+            // SAFETY: a part of the mapping above, which nothing refers to yet.
+            unsafe { map(address.byte_add(i * BLOCK_BYTES), BLOCK_BYTES, PROT_READ, MAP_SHARED | MAP_FIXED, block.as_raw_fd())? };
+        }
+        // SAFETY: the last part of the mapping above, which nothing refers to yet.
+        let last = unsafe { map(address.byte_add(blocks * BLOCK_BYTES), BLOCK_BYTES, PROT_READ | PROT_WRITE, free | MAP_FIXED, -1)? };
+        // SAFETY: a block of zeros, lent to nobody else; a page is aligned for any number.
+        let last = unsafe { slice::from_raw_parts_mut(last.cast::<u32>(), BLOCK) };
+        last[..rest].fill(ELLIPSIS);
+        last[rest..rest + letters].fill(LETTER);
+        Ok(mapped)
+    }
+
+    fn print(&self) -> &[u32] {
+        // SAFETY: all of it can be read while the mapping stands, which is as long as self does, and nobody writes to it.
+        unsafe { slice::from_raw_parts(self.address.cast::<u32>(), self.points) }
+    }
+}
+
+impl Drop for Mapped {
+    fn drop(&mut self) {
+        // SAFETY: the mapping is ours, and what was lent of it is given back. A failure leaves it until the program ends.
+        unsafe { munmap(self.address, self.bytes) };
+    }
+}
+
+/// Asks for the length of print whose normalised length it is, and that the row is left as it was.
+fn length_is_reported(length: usize, reported: usize) {
+    let mapped = match block().and_then(|block| Mapped::of_normalised_length(length, &block)) {
+        Ok(mapped) => mapped,
+        Err(error) => return say(&format!("NOT TESTED: print of the normalised length {length} cannot be mapped here: {error}")),
+    };
+    let mut row = [0xA5; 16];
+    let answer = transcribe(mapped.print(), &mut row);
+    assert_eq!(answer, Err(Refusal { number: Number::TooLong, second: reported }), "print of the normalised length {length}");
+    assert_eq!(row, [0xA5; 16], "print of the normalised length {length}");
+}
+
+// Short enough to be counted here as well: the mapping is as it should be.
+#[test]
+fn len_of_three_blocks() {
+    let length = 3 * 3 * BLOCK + 3 * 5 + 2;
+    match block().and_then(|block| Mapped::of_normalised_length(length, &block)) {
+        Ok(mapped) => {
+            let (ellipses, letters) = mapped.print().split_at(3 * BLOCK + 5);
+            assert!(ellipses.iter().all(|&point| point == ELLIPSIS));
+            assert_eq!(letters, [LETTER, LETTER]);
+        }
+        Err(error) => say(&format!("NOT TESTED: print cannot be mapped here: {error}")),
+    }
+    length_is_reported(length, length);
+}
+
+#[test]
+fn len_one_below_the_cap() {
+    length_is_reported(CAP - 1, CAP - 1);
+}
+
+#[test]
+fn len_at_the_cap() {
+    length_is_reported(CAP, CAP);
+}
+
+// In 32 bits it would be 0.
+#[test]
+fn len_one_above_the_cap() {
+    length_is_reported(CAP + 1, CAP);
+}
+
+// In 32 bits it would be 5, which is not too long.
+#[test]
+fn len_twice_above_the_cap() {
+    length_is_reported(2 * (CAP + 1) + 5, CAP);
+}

@@ -1,0 +1,87 @@
+//! Every vector through the library, at several rooms.
+use omdurgash::{transcribe, Number, Refusal};
+use std::fs::read_to_string;
+use vectors::{of_repository, parse, say, Answer, Vector};
+
+const FILE: &str = "vectors/print-to-cells.txt";
+
+/// A file with fewer was cut short.
+const FEWEST: usize = 100;
+
+/// More than the cells of any row.
+const MOST_ROOM: usize = 12_300;
+
+/// What every byte holds before a call: it is no cell.
+const UNTOUCHED: u8 = 0xA5;
+
+/// So many bytes stand before the lent row, and as many after it. The library must not touch them.
+const GUARD: usize = 64;
+
+/// An answer as the desk shows it: 0 and the count of cells, or a refusal's two numbers.
+type Shown = (u8, usize);
+
+const NEEDS_ROOM: u8 = Number::NeedsRoom as u8;
+
+fn shown(answer: Result<usize, Refusal>) -> Shown {
+    match answer {
+        Ok(count) => (0, count),
+        Err(refusal) => (refusal.number as u8, refusal.second),
+    }
+}
+
+/// Nothing, one short of the cells, just the cells, one over, and plenty. Print that is refused has no cells.
+fn rooms(cells: usize) -> Vec<usize> {
+    let mut rooms = vec![0, cells.saturating_sub(1), cells, cells + 1, MOST_ROOM];
+    rooms.dedup();
+    rooms
+}
+
+/// What the vector asks for at a room: the answer, and the cells that are then in the row.
+fn due(vector: &Vector, room: usize) -> (Shown, &[u8]) {
+    match &vector.answer {
+        Answer::Cells(cells) if cells.len() <= room => ((0, cells.len()), cells),
+        Answer::Cells(cells) => ((NEEDS_ROOM, cells.len()), &[]),
+        Answer::No(number, second) => ((*number, *second), &[]),
+    }
+}
+
+/// One call. The error tells what went wrong.
+fn trial(vector: &Vector, room: usize) -> Result<(), String> {
+    let (answer, cells) = due(vector, room);
+    let mut memory = vec![UNTOUCHED; GUARD + room + GUARD];
+    let mut wanted = memory.clone();
+    wanted[GUARD..GUARD + cells.len()].copy_from_slice(cells);
+
+    let got = shown(transcribe(&vector.print, &mut memory[GUARD..GUARD + room]));
+    if got != answer {
+        return Err(format!("room {room}: the answer is {got:?} and should be {answer:?}"));
+    }
+    match memory.iter().zip(&wanted).position(|(is, should)| is != should) {
+        None => Ok(()),
+        Some(at) => {
+            let place = at as isize - GUARD as isize;
+            Err(format!("room {room}: element {place} of the row is {} and should be {}", memory[at], wanted[at]))
+        }
+    }
+}
+
+#[test]
+fn every_vector_at_every_room() {
+    let text = read_to_string(of_repository(FILE)).unwrap_or_else(|error| panic!("{FILE}: {error}"));
+    let vectors = parse(&text).unwrap_or_else(|bad| panic!("{FILE}: {bad}"));
+    assert!(vectors.len() >= FEWEST, "{FILE} has {} vectors, fewer than {FEWEST}", vectors.len());
+
+    let (mut calls, mut wrong) = (0, Vec::new());
+    for vector in &vectors {
+        let cells = match &vector.answer {
+            Answer::Cells(cells) => cells.len(),
+            Answer::No(..) => 0,
+        };
+        for room in rooms(cells) {
+            calls += 1;
+            wrong.extend(trial(vector, room).err().map(|what| format!("FAILED {}: {what}", vector.name)));
+        }
+    }
+    assert!(wrong.is_empty(), "\n{}\n", wrong.join("\n"));
+    say(&format!("{} vectors, {calls} calls, 0 failed", vectors.len()));
+}
