@@ -11,12 +11,8 @@ use Rattle.rules.specs.Pairs.{markOf}
 use Rattle.rules.specs.Rows.{sortIn}
 use Rattle.rules.specs.Castilian.{castilian}
 use Rattle.rules.proofs.Finite.{holds, Hold, hold}
-use Rattle.entries.specs.Entries.{classIn, markIn, thenIn, oddIn, thenOf, oddStates, bits, markNumber, word, entryOf}
+use Rattle.entries.specs.Entries.{classIn, markIn, thenIn, oddIn, thenOf, oddStates, bits, marks, markNumber, word, entryOf}
 use Rattle.entries.proofs.Keys.{at-every}
-
--- the marks are those of the kinds that there are
-abbrev pub marks : ℕ
-marks = 11
 
 facts : Sort → List Bool
 facts s =

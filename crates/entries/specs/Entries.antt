@@ -8,7 +8,7 @@ use lib.Dec.{eqb}
 use lib.ListN.{length, getD}
 use Rattle.rules.specs.Sorts.{Sort, Table, Class, aToJ, otherSmall, capital, one, otherDigit, aStop, aComma, aHyphen, aDash, aBar, masculine, feminine, aPercent, otherSign, unlisted, class, classNumber}
 use Rattle.rules.specs.Signs.{ownCells, lowerCells}
-use Rattle.rules.specs.Pairs.{markOf}
+use Rattle.rules.specs.Pairs.{kinds, markOf}
 use Rattle.rules.specs.Rows.{sortIn}
 use Rattle.entries.specs.States.{free, capitals, mixed, number, lowered, ordinal, barred, under, guarded, hyphened, dashed}
 
@@ -120,7 +120,10 @@ unfoldable pub bits : List ℕ → ℕ
 bits [] = 0
 bits (s ∷ ss) = 2 ^ s + bits ss
 
--- 0 for no mark; 2k + 1 for the opener of kind k, 2k + 2 for its closer
+-- 0 for no mark; 2k + 1 for the opener of kind k, 2k + 2 for its closer; how many there are
+abbrev pub marks : ℕ
+marks = 2 * kinds + 1
+
 unfoldable pub markNumber : Option (ℕ × Bool) → ℕ
 markNumber none = 0
 markNumber (some m) = 2 * (m .0) + cond (m .1) 1 2

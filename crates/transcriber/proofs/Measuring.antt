@@ -20,8 +20,7 @@ use Rattle.rules.proofs.States.{Past, free}
 use Rattle.rules.proofs.Sides.{outcome-cells, row-on, verdict-on}
 use Rattle.rules.proofs.Rows.{whole-row}
 use Rattle.entries.specs.States.{free as freeState, states}
-use Rattle.entries.specs.Entries.{entryOf, classIn, countIn, thenIn, markIn, usualIn, markNumber}
-use Rattle.entries.proofs.Facts.{marks}
+use Rattle.entries.specs.Entries.{entryOf, classIn, countIn, thenIn, markIn, usualIn, marks, markNumber}
 use Rattle.turns.specs.Acts as act
 use Rattle.turns.specs.Stages.{itemsFrom, futureAt, stageAt, deedOf, settledBy, actOf}
 use Rattle.turns.proofs.Machine.{stage-small, then-small, parted, faultless, never-paired, done-low}

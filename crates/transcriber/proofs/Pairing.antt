@@ -11,8 +11,7 @@ use lib.Dec.{T, eqb, ltb, leb, eqb→eq, ltb→lt, leb→le}
 use borrow.Author.Tests.{eq-eqb, ne-eqb, lt-ltb, le-ltb}
 use Rattle.rules.specs.Pairs.{kinds, markFits, markTurns, closed, closedBelow}
 use Rattle.rules.proofs.Finite.{le-or-lt, beq-same, false-of, holds, Hold, hold}
-use Rattle.entries.specs.Entries.{markNumber}
-use Rattle.entries.proofs.Facts.{marks}
+use Rattle.entries.specs.Entries.{marks, markNumber}
 use Rattle.turns.proofs.Places.{below, at-below}
 use Rattle.transcriber.specs.Passes.{openStates, opensOf, pairsBy}
 use Rattle.transcriber.specs.declared.Pairs.{Pairs}

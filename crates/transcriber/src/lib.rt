@@ -22,6 +22,7 @@ ghost use Rattle.rules.specs.Rows.{good, verdictOf};
 ghost use Rattle.rules.specs.Normal.{normalOf};
 ghost use Rattle.rules.specs.Refusals.{longestText};
 ghost use Rattle.rules.proofs.Rows.{whole-row};
+ghost use Rattle.entries.specs.Entries.{marks};
 ghost use Rattle.rows.specs.Laid.{laid};
 ghost use Rattle.transcriber.specs.Promise.{Transcribed};
 ghost use Rattle.transcriber.specs.Passes.{ownBy, cellsBy, pairsBy, faultBy, measuredOf, answerOf, outOf, openStates};
@@ -147,7 +148,7 @@ fn width_of(way: usize, entry: u64) -> usize
 // "An opener stands only where its kind is closed, a closer only where it is open." The mark is 2k + 1 for the opener of kind k, 2k + 2 for
 // its closer.
 fn pairs_after(opened: usize, mark: usize) -> Pairs
-    requires { ⌜ (opened < openStates) × (0 < mark) × (mark < 11) ⌝ }
+    requires { ⌜ (opened < openStates) × (0 < mark) × (mark < marks) ⌝ }
     ensures { λ r. ⌜ r ≡ pairsBy opened mark ⌝ }
 {
     let kind = (mark - 1) / 2;
@@ -263,7 +264,7 @@ fn transcribe_normal(text: &[u32], row: &mut [u8]) -> Answer
 fn transcribe_copy(print: &[u32], row: &mut [u8]) -> Answer
     ensures { λ r. ⌜ Transcribed castilian (now (print .entry)) (now (row .entry)) r (now (row .exit)) ⌝ }
 {
-    let mut text = [0u32; 4096];
+    let mut text = [0u32; LONGEST_TEXT];
     let normalised = normal::normalise(print, &mut text);
     match normalised {
         Normalised::Text(n) => transcribe_normal(&text[..n], row),
