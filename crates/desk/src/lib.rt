@@ -28,7 +28,7 @@ const SHARES_CELLS: usize = 5;
 const NEEDS_ROOM: usize = 6;
 
 // The two numbers of an answer.
-fn numbers(answer: Answer) -> Shown
+pub fn numbers(answer: Answer) -> Shown
     ensures { λ r. ⌜ r ≡ shownOf answer ⌝ }
 {
     match answer {

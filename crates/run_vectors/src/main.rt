@@ -201,7 +201,7 @@ fn no_line(
     if progress.stage < PRINT || progress.stage == BEFORE {
         return bad_line(progress);
     }
-    if number == 0 || trials::NEEDS_ROOM <= number || second == points::NO_NUMBER {
+    if number == trials::DONE || trials::NEEDS_ROOM <= number || second == points::NO_NUMBER {
         return bad_line(progress);
     }
     let asked = Shown {
@@ -259,7 +259,7 @@ fn cells_line(
         file,
         progress,
         Shown {
-            number: 0,
+            number: trials::DONE,
             second: n,
         },
         n,

@@ -21,7 +21,9 @@ pub enum Outcome {
     WrongRow(u64, usize, usize, usize),
 }
 
-// "the answer needs more room than lent"
+// The number of an answer that is no refusal, and of "the answer needs more room than lent".
+pub const DONE: u64 = 0;
+
 pub const NEEDS_ROOM: u64 = 6;
 
 // What every element of the row holds before a call: it is no cell.
@@ -32,41 +34,17 @@ const ROOMS: usize = 5;
 
 // The paper's numbers of an answer.
 fn shown_of(answer: Answer) -> Shown {
-    match answer {
-        Answer::Done(n) => Shown {
-            number: 0,
-            second: n,
-        },
-        Answer::TooLong(n) => Shown {
-            number: 1,
-            second: n,
-        },
-        Answer::NoSign(n) => Shown {
-            number: 2,
-            second: n,
-        },
-        Answer::PairBroken(n) => Shown {
-            number: 3,
-            second: n,
-        },
-        Answer::OutsideForm(n) => Shown {
-            number: 4,
-            second: n,
-        },
-        Answer::SharesCells(n) => Shown {
-            number: 5,
-            second: n,
-        },
-        Answer::NeedsRoom(n) => Shown {
-            number: NEEDS_ROOM,
-            second: n,
-        },
+    let numbers = desk::numbers(answer);
+    let number = numbers.number;
+    Shown {
+        number: number as u64,
+        second: numbers.second,
     }
 }
 
 // What the vector asks for at a room: print that is accepted is refused where its cells do not fit.
 fn asked_at(asked: Shown, room: usize) -> Shown {
-    if asked.number == 0 && room < asked.second {
+    if asked.number == DONE && room < asked.second {
         return Shown {
             number: NEEDS_ROOM,
             second: asked.second,
@@ -113,7 +91,7 @@ fn trial(text: &[u32], asked: Shown, cells: &[u32], row: &mut [u8]) -> Outcome {
     if got.number != due.number || got.second != due.second {
         return Outcome::WrongAnswer(got.number, got.second, room);
     }
-    let place = if due.number == 0 {
+    let place = if due.number == DONE {
         first_difference(row, cells)
     } else {
         first_difference(row, &cells[..0])
