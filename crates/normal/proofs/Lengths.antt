@@ -1,6 +1,6 @@
 -- Lengths as they are reported, and the ends of `normalise`: what it answers for each, and what an answer tells. Assumes nothing.
 use mathlib.Core.Path.{_≡_, refl, sym, ap, _∙_, subst}
-use mathlib.Core.Bool.{Bool, true, false, _&&_, cond}
+use mathlib.Core.Bool.{Bool, true, false, cond}
 use mathlib.Core.List.{List}
 use mathlib.Core.Logic.{⊎-elim}
 use Prim.Native.Nat.{ℕ, _≤_, _<_}
@@ -12,7 +12,7 @@ use borrow.Author.Tests.{le-leb, lt-leb}
 use Rattle.rules.specs.Cells.{Text}
 use Rattle.rules.specs.Normal.{normalOf}
 use Rattle.rules.specs.Refusals.{longestText, reported}
-use Rattle.rules.proofs.Finite.{le-or-lt}
+use Rattle.rules.proofs.Finite.{and-false, le-or-lt}
 use Rattle.rows.specs.Laid.{laid}
 use Rattle.normal.specs.Copies.{fitsIn, normalisedOf, copyOf}
 use Rattle.normal.specs.declared.Normalised.{Normalised}
@@ -30,10 +30,6 @@ reported-le n =
 pub reported-short : (n : ℕ) → reported n ≤ longestText → reported n ≡ n
 reported-short n h =
     ⊎-elim (λ l. min-eq-left l) (λ l. let e : reported n ≡ greatest = min-eq-right (omega arith) in absurd (omega (arith, e, h))) (le-or-lt n greatest)
-
-and-false : (b : Bool) → b && false ≡ false
-and-false true = refl
-and-false false = refl
 
 module _ (p : Text) where
   -- the ends of `normalise`

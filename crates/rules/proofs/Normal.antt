@@ -19,7 +19,7 @@ use Rattle.rules.specs.Places.{Outcome, fault, silent, sign}
 use Rattle.rules.specs.Rows.{sortIn, itemIn, itemsIn}
 use Rattle.rules.specs.Normal.{replacements, replacedBy, isDigitPoint, isOrdinalPoint, becomes, normalAfter, normalOf}
 use Rattle.rules.specs.Demands.{NormalTwice, NormalLength}
-use Rattle.rules.proofs.Finite.{false-of, le-or-lt, all, every, every2, at2, every3, at3, and-left, and-right, and-both, implies, holds, Hold, hold}
+use Rattle.rules.proofs.Finite.{and-false, false-of, le-or-lt, all, every, every2, at2, every3, at3, and-left, and-right, and-both, implies, holds, Hold, hold}
 use Rattle.rules.proofs.States.{Past, Future}
 use Rattle.rules.proofs.Sides.{in-digits, rule, after, future}
 use Rattle.rules.proofs.Enumerations.{classes, pasts, futures, class-same}
@@ -82,10 +82,6 @@ kept-or-replaced : (c : ℕ) → T (kept replacements c) ⊎ Replaced c
 kept-or-replaced c = kept-or (λ r. holds (facts r)) replacements facts-hold c
 
 -- normalising leaves such text alone
-and-false : (d : Bool) → d && false ≡ false
-and-false true = refl
-and-false false = refl
-
 becomes-still : (d : Bool) (c : ℕ) → T (still c) → (becomes d c ≡ c ∷ []) × (isDigitPoint c ≡ false)
 unfolding still
 becomes-still d c t =

@@ -1,30 +1,37 @@
 -- The cells of a word by its count, and of a sign by its way, over plain numbers: what each end of `put_own`, `put_sign` and `width_of` cites.
 -- Assumes nothing.
 use mathlib.Core.Path.{_≡_, refl, sym, ap, _∙_}
-use mathlib.Core.Bool.{Bool, true, false}
+use mathlib.Core.Bool.{Bool, true, false, _||_, cond, true≢false}
 use mathlib.Core.List.{List, [], _∷_}
 use mathlib.Core.Logic.{⊎-elim}
 use Prim.Native.Nat.{ℕ}
 use native.Mathlib.Omega.{arith}
 use lib.Dec.{eqb}
 use lib.ListN.{length}
-use borrow.Author.Tests.{ne-eqb, eqb-true, eqb-false}
+use borrow.Author.Tests.{eqb-true, eqb-false}
 use Rattle.rules.proofs.Finite.{le-or-lt}
+use Rattle.entries.proofs.Keys.{among, Rest, rest-none}
 use Rattle.entries.specs.Entries.{countIn, firstIn, secondIn, thirdIn, lowerIn}
 use Rattle.turns.specs.Acts as act
 use Rattle.transcriber.specs.Passes.{choose, ownBy, waysOf, cellsBy}
 
--- what the `_` arm of a `match` on a number knows: that it is none of the keys; then what is chosen is what is left
+-- what is chosen by a number that is none of the keys is what is left
 module _ {A : Type 0} where
-  abbrev pub Rest : Type 0 → List (ℕ × A) → ℕ → Type 0
-  Rest B [] n = B
-  Rest B (e ∷ es) n = Rest (B × (n ≡ e .0 → ⊥)) es n
+  abbrev pub keysOf : List (ℕ × A) → List ℕ
+  keysOf [] = []
+  keysOf (e ∷ es) = e .0 ∷ keysOf es
 
-  pub rest-none : (B : Type 0) (es : List (ℕ × A)) (n : ℕ) (d : A) → Rest B es n → B × (choose es n d ≡ d)
-  rest-none B [] n d r = (r, refl)
-  rest-none B (e ∷ es) n d r =
-      let i = rest-none (B × (n ≡ e .0 → ⊥)) es n d r in
-      (i .0 .0, rw (ne-eqb n (e .0) (i .0 .1)) (i .1))
+  choose-none : (es : List (ℕ × A)) (n : ℕ) (d : A) → among (keysOf es) n ≡ false → choose es n d ≡ d
+  choose-none [] n d q = refl
+  choose-none (e ∷ es) n d q = go (eqb n (e .0)) q (choose-none es n d)
+    where
+      go : (b : Bool) → b || among (keysOf es) n ≡ false → (among (keysOf es) n ≡ false → choose es n d ≡ d)
+          → cond b (e .1) (choose es n d) ≡ d
+      go true q ih = absurd (true≢false q)
+      go false q ih = ih q
+
+  pub chosen-rest : (es : List (ℕ × A)) (n : ℕ) (d : A) → Rest Unit (keysOf es) n → choose es n d ≡ d
+  chosen-rest es n d r = choose-none es n d (rest-none Unit (keysOf es) n r .1)
 
 module _ (e : ℕ) where
   pub own-none : countIn e ≡ 0 → ownBy e ≡ []
@@ -89,6 +96,6 @@ module _ (w e : ℕ) where
   unfolding cellsBy
   by-lower a p q = rw (p, q)
 
-  pub by-rest : Rest Unit (waysOf e) w → cellsBy w e ≡ []
+  pub by-rest : Rest Unit (keysOf (waysOf e)) w → cellsBy w e ≡ []
   unfolding cellsBy
-  by-rest r = rest-none Unit (waysOf e) w [] r .1
+  by-rest r = chosen-rest (waysOf e) w [] r

@@ -221,18 +221,22 @@ fn write(text: &[u32], row: &mut [u8]) -> usize
 {
     let mut state: usize = FREE;
     let mut n: usize = 0;
-    let mut i: usize = 0;
-    while i < text.len() {
-        let entry = entries::entry_of(text[i]);
+    let mut place: usize = 0;
+    while place < text.len() {
+        let entry = entries::entry_of(text[place]);
         if entries::is_usual(entry, state) {
             n = n + put_own(&mut row[n..], entry);
             state = entries::then_in(entry);
         } else {
-            let deed = turns::settled(text, i + 1, turns::deed_of(state, entries::class_in(entry)));
+            let deed = turns::settled(
+                text,
+                place + 1,
+                turns::deed_of(state, entries::class_in(entry)),
+            );
             n = n + put_sign(&mut row[n..], deed % WAYS, entry);
             state = deed / WAYS;
         }
-        i += 1;
+        place += 1;
     }
     n
 }

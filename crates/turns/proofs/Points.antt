@@ -10,7 +10,7 @@ use lib.Dec.{T, eqb, leb, ltb, eqb→eq, leb→le, ltb→lt}
 use borrow.Author.Tests.{le-leb, lt-leb, le-ltb, lt-ltb}
 use Rattle.rules.specs.Sorts.{Sort, noSign, Item, Table, Class, unlisted, class}
 use Rattle.rules.specs.Rows.{sortIn}
-use Rattle.rules.proofs.Finite.{every, and-left, and-right, beq-same}
+use Rattle.rules.proofs.Finite.{and-false, every, and-left, and-right, beq-same}
 use Rattle.entries.proofs.Keys.{among, hit}
 use Rattle.turns.proofs.Places.{below, at-below}
 
@@ -22,10 +22,6 @@ among-every f (k ∷ ks) c t e = go (eqb c k) refl e (among-every f ks c (and-ri
     go : (b : Bool) → eqb c k ≡ b → b || among ks c ≡ true → (among ks c ≡ true → T (f c)) → T (f c)
     go true q e ih = subst (λ (j : ℕ). T (f j)) (sym (eqb→eq c k (subst T (sym q) tt))) (and-left (f k) (every f ks) t)
     go false q e ih = ih e
-
-and-false : (b : Bool) → b && false ≡ false
-and-false true = refl
-and-false false = refl
 
 true-of : (b : Bool) → T b → b ≡ true
 true-of true t = refl

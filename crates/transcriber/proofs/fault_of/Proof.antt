@@ -2,7 +2,7 @@
 use mathlib.Core.Path.{sym}
 use Rattle.transcriber.specs.Passes.{faults, faultBy}
 use Rattle.transcriber.specs.declared.Answer.the-variants.{SharesCells}
-use Rattle.transcriber.proofs.Cells.{rest-none}
+use Rattle.transcriber.proofs.Cells.{chosen-rest}
 use Rattle.transcriber.proofs.fault_of.Statement.{statement}
 use Rattle.transcriber.proofs.fault_of.Tie as tie
 use Rattle.transcriber.proofs.fault_of.Reads as reads
@@ -22,7 +22,7 @@ returns-2 c = rw (c .match .keys2)
 returns-3 : tie.Need-returns-3
 unfolding faultBy
 returns-3 c =
-    sym (rest-none Unit (faults (c .before .args .place)) (c .before .args .deed) (SharesCells (c .before .args .place)) (c .match .rest) .1)
+    sym (chosen-rest (faults (c .before .args .place)) (c .before .args .deed) (SharesCells (c .before .args .place)) (c .match .rest))
 
 pub fault-of-spec : {M : Type 1} → statement M
 fault-of-spec = tie.close (tie.spec returns returns-2 returns-3)

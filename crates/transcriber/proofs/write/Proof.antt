@@ -34,10 +34,10 @@ use Rattle.turns.proofs.deed_of.Reads as deed-of-reads
 use Rattle.turns.proofs.settled.Reads as settled-reads
 
 abbrev Inv-loop : tie.InvT-loop
-Inv-loop text row₀ state₀ n₀ i₀ row state n i = Wid castilian text row₀ row state n i
+Inv-loop text row₀ state₀ n₀ place₀ row state n place = Wid castilian text row₀ row state n place
 
 abbrev μ-loop : tie.MeasureT-loop
-μ-loop text row₀ state₀ n₀ i₀ row state n i = length text - i
+μ-loop text row₀ state₀ n₀ place₀ row state n place = length text - place
 
 -- THE PLACES: a turn begins; whether it is as usual; its deed is known
 abbrev L : Type 0
@@ -53,7 +53,7 @@ abbrev row₀ : L → List ℕ
 row₀ l = start l .args .row .now
 
 abbrev entry : L → ℕ
-entry l = entryOf castilian (getD (text l) (l .loop .i) 0)
+entry l = entryOf castilian (getD (text l) (l .loop .place) 0)
 
 abbrev past : L → Past
 past l = l .loop .inv .past
@@ -64,7 +64,7 @@ U = tie.After-is-usual Inv-loop μ-loop
 abbrev at-u : U → L
 at-u u = u .before .before .before .before
 
-inside : (u : U) → at-u u .loop .i < length (text (at-u u))
+inside : (u : U) → at-u u .loop .place < length (text (at-u u))
 inside u = u .before .before .before .loop-test .taken
 
 entry-is : (u : U) → u .before .entry-of .result ≡ entry (at-u u)
@@ -72,15 +72,15 @@ entry-is u = u .before .entry-of .ensures
 
 -- the sign at hand
 abbrev here : L → Row
-here l = outcome-cells (outcomeHere castilian held (text l) (l .loop .i) (past l)) (sortHere castilian held (text l) (l .loop .i) (past l))
+here l = outcome-cells (outcomeHere castilian held (text l) (l .loop .place) (past l)) (sortHere castilian held (text l) (l .loop .place) (past l))
 
 -- as usual: the word's own cells are the sign's
 usual : (u : U) → u .is-usual .result ≡ true
     → (ownBy (u .before .entry-of .result) ≡ here (at-u u))
-    × (thenIn (entry (at-u u)) ≡ stageAt (next castilian held (text (at-u u)) (at-u u .loop .i) (past (at-u u))) (ahead castilian held (text (at-u u)) (at-u u .loop .i) (past (at-u u))))
+    × (thenIn (entry (at-u u)) ≡ stageAt (next castilian held (text (at-u u)) (at-u u .loop .place) (past (at-u u))) (ahead castilian held (text (at-u u)) (at-u u .loop .place) (past (at-u u))))
 usual u e =
     let l = at-u u in
-    let g = usual-goes castilian held (text l) (past l) (l .loop .i) (l .loop .state) (l .loop .inv .at)
+    let g = usual-goes castilian held (text l) (past l) (l .loop .place) (l .loop .state) (l .loop .inv .at)
     (sym (u .is-usual .ensures ∙ ap (λ (w : ℕ). usualIn w (l .loop .state)) (entry-is u)) ∙ e) in
     (ap ownBy (entry-is u) ∙ g .1, g .2)
 
@@ -92,21 +92,21 @@ from-d c = c .before .before .before .before
 
 -- the deed is the rules' outcome, and no fault
 deed-told : (c : D) → let l = at-u (from-d c) in
-    c .settled .result ≡ actOf (outcomeHere castilian held (text l) (l .loop .i) (past l)) (stageAt (next castilian held (text l) (l .loop .i) (past l)) (ahead castilian held (text l) (l .loop .i) (past l)))
+    c .settled .result ≡ actOf (outcomeHere castilian held (text l) (l .loop .place) (past l)) (stageAt (next castilian held (text l) (l .loop .place) (past l)) (ahead castilian held (text l) (l .loop .place) (past l)))
 deed-told c =
     let u = from-d c in
     let l = at-u u in
-    act-is castilian held (text l) (past l) (l .loop .i) (l .loop .state) (l .loop .inv .at) (c .settled .result)
+    act-is castilian held (text l) (past l) (l .loop .place) (l .loop .state) (l .loop .inv .at) (c .settled .result)
     (c .settled .ensures
-    ∙ ap (λ (d : ℕ). settledBy d (futureAt castilian (text l) (l .loop .i + 1)))
+    ∙ ap (λ (d : ℕ). settledBy d (futureAt castilian (text l) (l .loop .place + 1)))
     (c .before .deed-of .ensures ∙ ap (deedOf (l .loop .state)) (c .before .before .class-in .ensures ∙ ap classIn (entry-is u))))
 
 low : (c : D) → c .settled .result < act.questions
 low c =
     let u = from-d c in
     let l = at-u u in
-    low-deed castilian held (text l) (l .loop .i) (past l) (c .settled .result) (deed-told c)
-    (wid-fine castilian held (text l) (row₀ l) (l .loop .row) (l .loop .state) (l .loop .n) (l .loop .i) (l .loop .inv) (start l .pre .1) (inside u))
+    low-deed castilian held (text l) (l .loop .place) (past l) (c .settled .result) (deed-told c)
+    (wid-fine castilian held (text l) (row₀ l) (l .loop .row) (l .loop .state) (l .loop .n) (l .loop .place) (l .loop .inv) (start l .pre .1) (inside u))
 
 -- otherwise: the cells of its way are the sign's
 odd : (c : D) → cellsBy (c .settled .result % 8) (from-d c .before .entry-of .result) ≡ here (at-u (from-d c))
@@ -114,7 +114,7 @@ odd c =
     let u = from-d c in
     let l = at-u u in
     ap (cellsBy (c .settled .result % 8)) (entry-is u)
-    ∙ cells-here castilian held (text l) (l .loop .i) (past l) (c .settled .result) (deed-told c) (low c)
+    ∙ cells-here castilian held (text l) (l .loop .place) (past l) (c .settled .result) (deed-told c) (low c)
 
 -- src/lib.rt:223:5
 loop-holds : tie.Need-loop-holds Inv-loop μ-loop
@@ -153,7 +153,7 @@ put-own-requires : tie.Need-put-own-requires Inv-loop μ-loop
 put-own-requires c κs =
     let u = c .before .before in
     let l = at-u u in
-    wid-room castilian held (text l) (row₀ l) (l .loop .row) (l .loop .state) (l .loop .n) (l .loop .i) (l .loop .inv) (start l .pre .1) (inside u) (ownBy (u .before .entry-of .result)) (usual u (c .before .if1 .taken) .0)
+    wid-room castilian held (text l) (row₀ l) (l .loop .row) (l .loop .state) (l .loop .n) (l .loop .place) (l .loop .inv) (start l .pre .1) (inside u) (ownBy (u .before .entry-of .result)) (usual u (c .before .if1 .taken) .0)
 
 -- src/lib.rt:226:17
 add-n : tie.Need-add-n Inv-loop μ-loop
@@ -166,7 +166,7 @@ add-n c =
       p .put-own .ensures .0,
       l .loop .inv .same,
       start l .good .1,
-      wid-few castilian held (text l) (row₀ l) (l .loop .row) (l .loop .state) (l .loop .n) (l .loop .i) (l .loop .inv) (start l .pre .1) (inside u) (ownBy (u .before .entry-of .result)) (usual u (p .before .before .if1 .taken) .0),
+      wid-few castilian held (text l) (row₀ l) (l .loop .row) (l .loop .state) (l .loop .n) (l .loop .place) (l .loop .inv) (start l .pre .1) (inside u) (ownBy (u .before .entry-of .result)) (usual u (p .before .before .if1 .taken) .0),
     )
 
 -- src/lib.rt:227:13
@@ -207,7 +207,7 @@ put-sign-requires c κs =
     let d = c .before in
     let u = from-d d in
     let l = at-u u in
-    wid-room castilian held (text l) (row₀ l) (l .loop .row) (l .loop .state) (l .loop .n) (l .loop .i) (l .loop .inv) (start l .pre .1) (inside u) (cellsBy (d .settled .result % 8) (u .before .entry-of .result)) (odd d)
+    wid-room castilian held (text l) (row₀ l) (l .loop .row) (l .loop .state) (l .loop .n) (l .loop .place) (l .loop .inv) (start l .pre .1) (inside u) (cellsBy (d .settled .result % 8) (u .before .entry-of .result)) (odd d)
 
 -- src/lib.rt:230:17
 add-n-2 : tie.Need-add-n-2 Inv-loop μ-loop
@@ -221,12 +221,12 @@ add-n-2 c =
       p .put-sign .ensures .0,
       l .loop .inv .same,
       start l .good .1,
-      wid-few castilian held (text l) (row₀ l) (l .loop .row) (l .loop .state) (l .loop .n) (l .loop .i) (l .loop .inv) (start l .pre .1) (inside u) (cellsBy (d .settled .result % 8) (u .before .entry-of .result)) (odd d),
+      wid-few castilian held (text l) (row₀ l) (l .loop .row) (l .loop .state) (l .loop .n) (l .loop .place) (l .loop .inv) (start l .pre .1) (inside u) (cellsBy (d .settled .result % 8) (u .before .entry-of .result)) (odd d),
     )
 
 -- src/lib.rt:233:9
-add-i : tie.Need-add-i Inv-loop μ-loop
-add-i c = search needs
+add-place : tie.Need-add-place Inv-loop μ-loop
+add-place c = search needs
 
 -- src/lib.rt:223:5
 loop-less : tie.Need-loop-less Inv-loop μ-loop
@@ -239,15 +239,15 @@ loop-again c =
     let l = at-u u in
     let t = text l in
     ⊎-elim
-    (λ j. subst (λ (n : ℕ). Wid castilian t (row₀ l) (c .if1 .row) (c .if1 .state) n (l .loop .i + 1)) (sym (j .8))
-    (subst (λ (s : ℕ). Wid castilian t (row₀ l) (c .if1 .row) s (l .loop .n + j .2 .result) (l .loop .i + 1)) (sym (j .7 ∙ j .5 .ensures ∙ ap thenIn (entry-is u)))
-    (wid-on castilian held (text l) (row₀ l) (l .loop .row) (l .loop .state) (l .loop .n) (l .loop .i) (l .loop .inv) (start l .pre .1) (inside u) (ownBy (u .before .entry-of .result)) (usual u (j .0 .taken) .0) (thenIn (entry l)) (j .2 .result) _ (c .if1 .row)
+    (λ j. subst (λ (n : ℕ). Wid castilian t (row₀ l) (c .if1 .row) (c .if1 .state) n (l .loop .place + 1)) (sym (j .8))
+    (subst (λ (s : ℕ). Wid castilian t (row₀ l) (c .if1 .row) s (l .loop .n + j .2 .result) (l .loop .place + 1)) (sym (j .7 ∙ j .5 .ensures ∙ ap thenIn (entry-is u)))
+    (wid-on castilian held (text l) (row₀ l) (l .loop .row) (l .loop .state) (l .loop .n) (l .loop .place) (l .loop .inv) (start l .pre .1) (inside u) (ownBy (u .before .entry-of .result)) (usual u (j .0 .taken) .0) (thenIn (entry l)) (j .2 .result) _ (c .if1 .row)
     (usual u (j .0 .taken) .1) (j .2 .ensures .0) (j .2 .ensures .1) (j .6))))
     (λ j. let d : D = record { before = record { before = record { before = record { before = u; if1 = j .0 }; class-in = j .1 }; deed-of = j .2 }; settled = j .3 } in
-    subst (λ (n : ℕ). Wid castilian t (row₀ l) (c .if1 .row) (c .if1 .state) n (l .loop .i + 1)) (sym (j .10))
-    (subst (λ (s : ℕ). Wid castilian t (row₀ l) (c .if1 .row) s (l .loop .n + j .5 .result) (l .loop .i + 1)) (sym (j .9))
-    (wid-on castilian held (text l) (row₀ l) (l .loop .row) (l .loop .state) (l .loop .n) (l .loop .i) (l .loop .inv) (start l .pre .1) (inside u) (cellsBy (d .settled .result % 8) (u .before .entry-of .result)) (odd d) (d .settled .result / 8) (j .5 .result) _ (c .if1 .row)
-    (state-after castilian held t (l .loop .i) (past l) (d .settled .result) (deed-told d) (low d)) (j .5 .ensures .0) (j .5 .ensures .1) (j .8)))) (c .if1 .came)
+    subst (λ (n : ℕ). Wid castilian t (row₀ l) (c .if1 .row) (c .if1 .state) n (l .loop .place + 1)) (sym (j .10))
+    (subst (λ (s : ℕ). Wid castilian t (row₀ l) (c .if1 .row) s (l .loop .n + j .5 .result) (l .loop .place + 1)) (sym (j .9))
+    (wid-on castilian held (text l) (row₀ l) (l .loop .row) (l .loop .state) (l .loop .n) (l .loop .place) (l .loop .inv) (start l .pre .1) (inside u) (cellsBy (d .settled .result % 8) (u .before .entry-of .result)) (odd d) (d .settled .result / 8) (j .5 .result) _ (c .if1 .row)
+    (state-after castilian held t (l .loop .place) (past l) (d .settled .result) (deed-told d) (low d)) (j .5 .ensures .0) (j .5 .ensures .1) (j .8)))) (c .if1 .came)
 
 -- src/lib.rt:216:1
 same-length : tie.Need-same-length Inv-loop μ-loop
@@ -257,7 +257,7 @@ same-length c = search needs
 returns : tie.Need-returns Inv-loop μ-loop
 returns c =
     let l = c .before in
-    wid-end castilian held (text l) (row₀ l) (l .loop .row) (l .loop .state) (l .loop .n) (l .loop .i) (l .loop .inv) (start l .pre .1) (c .loop-test .left)
+    wid-end castilian held (text l) (row₀ l) (l .loop .row) (l .loop .state) (l .loop .n) (l .loop .place) (l .loop .inv) (start l .pre .1) (c .loop-test .left)
 
 pub write-spec : {M : Type 1} → statement M
 write-spec =
@@ -285,7 +285,7 @@ write-spec =
     part-put-sign-end
     put-sign-requires
     add-n-2
-    add-i
+    add-place
     loop-less
     loop-again
     same-length
