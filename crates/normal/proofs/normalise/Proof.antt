@@ -9,18 +9,15 @@ use Rattle.normal.proofs.normalise.Lts as lts
 use Rattle.normal.proofs.copy.Reads as copy-reads
 use Rattle.normal.proofs.normal_length.Reads as normal-length-reads
 
--- src/lib.rt:193:9
 normal-length-requires : tie.Need-normal-length-requires
 normal-length-requires c κs = search needs
 
--- src/lib.rt:195:9
 returns : tie.Need-returns
 returns c =
     let k = c .before in
     let s = k .before .before .before in
     too-long (s .args .print .now) (s .args .text .now) (k .normal-length .result) (k .normal-length .ensures) (c .if1 .taken)
 
--- src/lib.rt:198:9
 returns-2 : tie.Need-returns-2
 returns-2 c =
     let e = c .before in
@@ -28,7 +25,6 @@ returns-2 c =
     let s = k .before .before .before in
     cramped (s .args .print .now) (s .args .text .now) (k .normal-length .result) (k .normal-length .ensures) (e .if1 .left) (c .if2 .taken)
 
--- src/lib.rt:200:22
 copy-requires : tie.Need-copy-requires
 copy-requires c κs =
     let f = c .before in
@@ -37,11 +33,9 @@ copy-requires c κs =
     let s = k .before .before .before in
     omega (arith, length-is (s .args .print .now) (s .args .text .now) (k .normal-length .result) (k .normal-length .ensures) (e .if1 .left), f .if2 .left)
 
--- src/lib.rt:190:1
 same-length : tie.Need-same-length
 same-length c = search needs
 
--- src/lib.rt:190:1
 returns-3 : tie.Need-returns-3
 returns-3 c =
     let w = c .before .before in

@@ -8,17 +8,14 @@ use Rattle.transcriber.proofs.fault_of.Tie as tie
 use Rattle.transcriber.proofs.fault_of.Reads as reads
 use Rattle.transcriber.proofs.fault_of.Lts as lts
 
--- src/lib.rt:168:1
 returns : tie.Need-returns
 unfolding faultBy
 returns c = rw (c .match .keys1)
 
--- src/lib.rt:168:1
 returns-2 : tie.Need-returns-2
 unfolding faultBy
 returns-2 c = rw (c .match .keys2)
 
--- src/lib.rt:168:1
 returns-3 : tie.Need-returns-3
 unfolding faultBy
 returns-3 c =

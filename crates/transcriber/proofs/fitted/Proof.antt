@@ -9,24 +9,20 @@ use Rattle.transcriber.proofs.fitted.Reads as reads
 use Rattle.transcriber.proofs.fitted.Lts as lts
 use Rattle.transcriber.proofs.write.Reads as write-reads
 
--- src/lib.rt:244:9
 returns : tie.Need-returns
 returns c =
     let s = c .before .before .before in
     cramped castilian (s .args .text .now) (s .args .row .now) (s .args .n) (s .pre) (c .if1 .taken)
 
--- src/lib.rt:246:18
 write-requires : tie.Need-write-requires
 write-requires c κs =
     let s = c .before .before .before .before in
     let m = measured-cells castilian (s .args .text .now) (s .args .n) (s .pre) in
     (m .0, omega (arith, m .1, c .before .if1 .left))
 
--- src/lib.rt:239:1
 same-length : tie.Need-same-length
 same-length c = search needs
 
--- src/lib.rt:239:1
 returns-2 : tie.Need-returns-2
 returns-2 c =
     let w = c .before .before in

@@ -139,27 +139,21 @@ went c =
       j .5 .ensures .1,
     )) (c .if2 .came)
 
--- src/lib.rt:187:5
 loop-holds : tie.Need-loop-holds Inv-loop μ-loop
 loop-holds c = mid-start castilian held (c .before .args .text .now)
 
--- src/lib.rt:188:39
 mul-entry-of : tie.Need-mul-entry-of Inv-loop μ-loop
 mul-entry-of c = search needs
 
--- src/lib.rt:188:39
 shared-slice-read-entry-of : tie.Need-shared-slice-read-entry-of Inv-loop μ-loop
 shared-slice-read-entry-of c = search needs
 
--- src/lib.rt:188:13
 entry-of-requires : tie.Need-entry-of-requires Inv-loop μ-loop
 entry-of-requires c κs = search needs
 
--- src/lib.rt:189:13
 mark-in-requires : tie.Need-mark-in-requires Inv-loop μ-loop
 mark-in-requires c κs = search needs
 
--- src/lib.rt:191:42
 pairs-after-requires : tie.Need-pairs-after-requires Inv-loop μ-loop
 pairs-after-requires c κs =
     let a = c .before in
@@ -167,15 +161,12 @@ pairs-after-requires c κs =
     let m : 0 < a .mark-in .result = some-number (a .mark-in .result) (c .if1 .taken) in
     (l .loop .inv .few, m, mark-small castilian held (text l) (l .loop .opened) (l .loop .i) (l .loop .inv .few) (a .mark-in .result) (mark-is a) m)
 
--- src/lib.rt:191:30
 enum-known-now-open : tie.Need-enum-known-now-open Inv-loop μ-loop
 enum-known-now-open c = search needs
 
--- src/lib.rt:192:42
 enum-told : tie.Need-enum-told Inv-loop μ-loop
 enum-told c = search needs
 
--- src/lib.rt:192:17
 returns : tie.Need-returns Inv-loop μ-loop
 returns c =
     let p = c .before .before in
@@ -185,45 +176,35 @@ returns c =
     (not-passed castilian held (text l) (l .loop .opened) (l .loop .i) (l .loop .inv .few) (a .mark-in .result) (mark-is a)
     (some-number (a .mark-in .result) (p .before .if1 .taken)) (sym (p .pairs-after .ensures) ∙ c .enum-told .given .1))
 
--- src/lib.rt:196:12
 is-usual-requires : tie.Need-is-usual-requires Inv-loop μ-loop
 is-usual-requires c κs = search needs
 
--- src/lib.rt:197:21
 count-in-requires : tie.Need-count-in-requires Inv-loop μ-loop
 count-in-requires c κs = search needs
 
--- src/lib.rt:197:17
 add-n : tie.Need-add-n Inv-loop μ-loop
 add-n c =
     let l = at-u (c .before .before) in
     omega (arith, c .count-in .ensures, l .loop .inv .low, l .loop .inv .inside, l .before .before .pre)
 
--- src/lib.rt:198:13
 then-in-requires : tie.Need-then-in-requires Inv-loop μ-loop
 then-in-requires c κs = search needs
 
--- src/lib.rt:200:45
 add-settled : tie.Need-add-settled Inv-loop μ-loop
 add-settled c = search needs
 
--- src/lib.rt:200:74
 class-in-requires : tie.Need-class-in-requires Inv-loop μ-loop
 class-in-requires c κs = search needs
 
--- src/lib.rt:200:52
 deed-of-requires : tie.Need-deed-of-requires Inv-loop μ-loop
 deed-of-requires c κs = search needs
 
--- src/lib.rt:200:17
 settled-requires : tie.Need-settled-requires Inv-loop μ-loop
 settled-requires c κs = search needs
 
--- src/lib.rt:202:42
 fault-of-requires : tie.Need-fault-of-requires Inv-loop μ-loop
 fault-of-requires c κs = search needs
 
--- src/lib.rt:202:17
 returns-2 : tie.Need-returns-2 Inv-loop μ-loop
 returns-2 c =
     let d = c .before .before in
@@ -234,26 +215,21 @@ returns-2 c =
     (u .before .before .before .before .before .loop-test .taken) (u .before .if1 .opened) (passed (u .before)) (d .settled .result)
     (act-is castilian held (text l) (past l) (l .loop .i) (l .loop .state) (l .loop .inv .at) (d .settled .result) (deed-told d)) (c .before .if3 .taken)
 
--- src/lib.rt:204:21
 width-of-requires : tie.Need-width-of-requires Inv-loop μ-loop
 width-of-requires c κs = search needs
 
--- src/lib.rt:204:17
 add-n-2 : tie.Need-add-n-2 Inv-loop μ-loop
 add-n-2 c =
     let u = from-d (c .before .before) in
     let l = at-u u in
     omega (arith, c .width-of .ensures .1, l .loop .inv .low, l .loop .inv .inside, l .before .before .pre)
 
--- src/lib.rt:207:9
 add-i : tie.Need-add-i Inv-loop μ-loop
 add-i c = search needs
 
--- src/lib.rt:187:5
 loop-less : tie.Need-loop-less Inv-loop μ-loop
 loop-less c = search needs
 
--- src/lib.rt:187:5
 loop-again : tie.Need-loop-again Inv-loop μ-loop
 loop-again c =
     let u = c .before in
@@ -263,13 +239,11 @@ loop-again c =
     (mid-on castilian held (text l) (l .loop .opened) (l .loop .state) (l .loop .n) (l .loop .i) (l .loop .inv)
     (u .before .before .before .before .before .loop-test .taken) (u .before .if1 .opened) (passed (u .before)) (w .0) (c .if2 .state) (w .1) (w .3))
 
--- src/lib.rt:210:9
 returns-3 : tie.Need-returns-3 Inv-loop μ-loop
 returns-3 c =
     let l = c .before .before in
     mid-done castilian held (text l) (l .loop .opened) (l .loop .state) (l .loop .n) (l .loop .i) (l .loop .inv) (c .before .loop-test .left) (c .if4 .taken)
 
--- src/lib.rt:179:1
 returns-4 : tie.Need-returns-4 Inv-loop μ-loop
 returns-4 c =
     let l = c .before .before in

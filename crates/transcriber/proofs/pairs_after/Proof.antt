@@ -8,31 +8,24 @@ use Rattle.transcriber.proofs.pairs_after.Tie as tie
 use Rattle.transcriber.proofs.pairs_after.Reads as reads
 use Rattle.transcriber.proofs.pairs_after.Lts as lts
 
--- src/lib.rt:152:17
 sub-kind : tie.Need-sub-kind
 sub-kind c = search needs
 
--- src/lib.rt:153:15
 shl-bit : tie.Need-shl-bit
 shl-bit c = search needs
 
--- src/lib.rt:154:20
 shr-is-open : tie.Need-shr-is-open
 shr-is-open c = search needs
 
--- src/lib.rt:157:13
 returns : tie.Need-returns
 returns c = let s = c .before .before in opens-again (s .args .opened) (s .args .mark) (s .pre .2) (c .before .if1 .taken) (c .if2 .taken)
 
--- src/lib.rt:159:29
 add-t10 : tie.Need-add-t10
 add-t10 c = let s = c .before .before in omega (arith, bit-is (s .args .opened) (s .args .mark) (s .pre .2), bit-small (s .args .opened) (s .args .mark) (s .pre .2), s .pre .0)
 
--- src/lib.rt:159:9
 returns-2 : tie.Need-returns-2
 returns-2 c = let s = c .before .before in opens (s .args .opened) (s .args .mark) (s .pre .2) (c .before .if1 .taken) (c .if2 .left)
 
--- src/lib.rt:162:29
 sub-t11 : tie.Need-sub-t11
 sub-t11 c =
     let s = c .before .before in
@@ -40,11 +33,9 @@ sub-t11 c =
     bit-below (s .args .opened) (kindBy (s .args .mark)) (s .pre .0) (kind-small (s .args .mark) (s .pre .2)) (c .if3 .taken) in
     omega (arith, bit-is (s .args .opened) (s .args .mark) (s .pre .2), b)
 
--- src/lib.rt:162:9
 returns-3 : tie.Need-returns-3
 returns-3 c = let s = c .before .before in closes (s .args .opened) (s .args .mark) (s .pre .2) (c .before .if1 .left) (c .if3 .taken)
 
--- src/lib.rt:148:1
 returns-4 : tie.Need-returns-4
 returns-4 c = let s = c .before .before in closes-none (s .args .opened) (s .args .mark) (s .pre .2) (c .before .if1 .left) (c .if3 .left)
 

@@ -34,49 +34,39 @@ told c n q = sym (c .count-in .ensures) ∙ q
 not-told : (c : K) (n : ℕ) → (c .count-in .result ≡ n → ⊥) → countIn (word c) ≡ n → ⊥
 not-told c n q r = q (c .count-in .ensures ∙ r)
 
--- src/lib.rt:73:9
 count-in-requires : tie.Need-count-in-requires
 count-in-requires c κs = search needs
 
--- src/lib.rt:75:9
 returns : tie.Need-returns
 returns c = let k = c .before in wrote-none (ownBy (word k)) (S k .args .row .now) (own-none (word k) (told k 0 (c .if1 .taken)))
 
--- src/lib.rt:77:14
 first-in-requires : tie.Need-first-in-requires
 first-in-requires c κs = search needs
 
--- src/lib.rt:77:5
 slice-write-row : tie.Need-slice-write-row
 slice-write-row c = let k = c .before .before in omega (arith, S k .pre, own-length (word k), k .count-in .ensures, c .before .if1 .left)
 
--- src/lib.rt:79:9
 same-length : tie.Need-same-length
 same-length c = search needs
 
--- src/lib.rt:79:9
 returns-2 : tie.Need-returns-2
 returns-2 c =
     let f = c .before in
     let k = f .before .before in
     wrote-one (ownBy (word k)) (S k .args .row .now) (S k .pre) _ (own-one (word k) _ (f .first-in .ensures) (told k 1 (c .if2 .taken)))
 
--- src/lib.rt:81:14
 second-in-requires : tie.Need-second-in-requires
 second-in-requires c κs = search needs
 
--- src/lib.rt:81:5
 slice-write-row-2 : tie.Need-slice-write-row-2
 slice-write-row-2 c =
     let f = c .before .before in
     let k = f .before .before in
     simp length-set (omega (arith, S k .pre, own-length (word k), k .count-in .ensures, f .before .if1 .left, c .before .if2 .left))
 
--- src/lib.rt:83:9
 same-length-2 : tie.Need-same-length-2
 same-length-2 c = search needs
 
--- src/lib.rt:83:9
 returns-3 : tie.Need-returns-3
 returns-3 c =
     let s = c .before in
@@ -85,11 +75,9 @@ returns-3 c =
     wrote-two (ownBy (word k)) (S k .args .row .now) (S k .pre) _ _
     (own-two (word k) _ _ (f .first-in .ensures) (s .second-in .ensures) (told k 2 (c .if3 .taken)))
 
--- src/lib.rt:85:14
 third-in-requires : tie.Need-third-in-requires
 third-in-requires c κs = search needs
 
--- src/lib.rt:85:5
 slice-write-row-3 : tie.Need-slice-write-row-3
 slice-write-row-3 c =
     let s = c .before .before in
@@ -103,11 +91,9 @@ slice-write-row-3 c =
       count-three (word k) (not-told k 0 (f .before .if1 .left)) (not-told k 1 (s .before .if2 .left)) (not-told k 2 (c .before .if3 .left)),
     ))
 
--- src/lib.rt:69:1
 same-length-3 : tie.Need-same-length-3
 same-length-3 c = search needs
 
--- src/lib.rt:69:1
 returns-4 : tie.Need-returns-4
 returns-4 c =
     let s = c .before .before in

@@ -18,114 +18,93 @@ use Rattle.entries.proofs.first_in.Reads as first-in-reads
 use Rattle.entries.proofs.lower_in.Reads as lower-in-reads
 use Rattle.transcriber.proofs.put_own.Reads as put-own-reads
 
--- src/lib.rt:95:17
 put-own-requires : tie.Need-put-own-requires
 put-own-requires c κs =
     let k = c .before in
     let s = k .before .before in
     subst (λ (r : Row). length r ≤ length (s .args .row .now)) (by-bare (s .args .way) (s .args .entry) (k .match .keys1)) (s .pre)
 
--- src/lib.rt:97:13
 slice-write-row : tie.Need-slice-write-row
 slice-write-row c =
     let k = c in
     omega (arith, k .before .before .pre, ap length (by-one-capital (k .before .before .args .way) (k .before .before .args .entry) (firstIn (k .before .before .args .entry)) refl (k .match .keys2)))
 
--- src/lib.rt:98:22
 first-in-requires : tie.Need-first-in-requires
 first-in-requires c κs = search needs
 
--- src/lib.rt:98:13
 slice-write-row-2 : tie.Need-slice-write-row-2
 slice-write-row-2 c =
     let k = c .before in
     simp length-set (omega (arith, k .before .before .pre, ap length (by-one-capital (k .before .before .args .way) (k .before .before .args .entry) (firstIn (k .before .before .args .entry)) refl (k .match .keys2))))
 
--- src/lib.rt:102:13
 slice-write-row-3 : tie.Need-slice-write-row-3
 slice-write-row-3 c =
     let k = c in
     omega (arith, k .before .before .pre, ap length (by-all-capitals (k .before .before .args .way) (k .before .before .args .entry) (firstIn (k .before .before .args .entry)) refl (k .match .keys3)))
 
--- src/lib.rt:103:13
 slice-write-row-4 : tie.Need-slice-write-row-4
 slice-write-row-4 c =
     let k = c in
     simp length-set (omega (arith, k .before .before .pre, ap length (by-all-capitals (k .before .before .args .way) (k .before .before .args .entry) (firstIn (k .before .before .args .entry)) refl (k .match .keys3))))
 
--- src/lib.rt:104:22
 first-in-requires-2 : tie.Need-first-in-requires-2
 first-in-requires-2 c κs = search needs
 
--- src/lib.rt:104:13
 slice-write-row-5 : tie.Need-slice-write-row-5
 slice-write-row-5 c =
     let k = c .before in
     simp length-set (omega (arith, k .before .before .pre, ap length (by-all-capitals (k .before .before .args .way) (k .before .before .args .entry) (firstIn (k .before .before .args .entry)) refl (k .match .keys3))))
 
--- src/lib.rt:108:13
 slice-write-row-6 : tie.Need-slice-write-row-6
 slice-write-row-6 c =
     let k = c in
     omega (arith, k .before .before .pre, ap length (by-separated (k .before .before .args .way) (k .before .before .args .entry) (firstIn (k .before .before .args .entry)) refl (k .match .keys4)))
 
--- src/lib.rt:109:22
 first-in-requires-3 : tie.Need-first-in-requires-3
 first-in-requires-3 c κs = search needs
 
--- src/lib.rt:109:13
 slice-write-row-7 : tie.Need-slice-write-row-7
 slice-write-row-7 c =
     let k = c .before in
     simp length-set (omega (arith, k .before .before .pre, ap length (by-separated (k .before .before .args .way) (k .before .before .args .entry) (firstIn (k .before .before .args .entry)) refl (k .match .keys4))))
 
--- src/lib.rt:113:13
 slice-write-row-8 : tie.Need-slice-write-row-8
 slice-write-row-8 c =
     let k = c in
     omega (arith, k .before .before .pre, ap length (by-first-digit (k .before .before .args .way) (k .before .before .args .entry) (firstIn (k .before .before .args .entry)) refl (k .match .keys5)))
 
--- src/lib.rt:114:22
 first-in-requires-4 : tie.Need-first-in-requires-4
 first-in-requires-4 c κs = search needs
 
--- src/lib.rt:114:13
 slice-write-row-9 : tie.Need-slice-write-row-9
 slice-write-row-9 c =
     let k = c .before in
     simp length-set (omega (arith, k .before .before .pre, ap length (by-first-digit (k .before .before .args .way) (k .before .before .args .entry) (firstIn (k .before .before .args .entry)) refl (k .match .keys5))))
 
--- src/lib.rt:118:13
 slice-write-row-10 : tie.Need-slice-write-row-10
 slice-write-row-10 c =
     let k = c in
     omega (arith, k .before .before .pre, ap length (by-first-lower (k .before .before .args .way) (k .before .before .args .entry) (lowerIn (k .before .before .args .entry)) refl (k .match .keys6)))
 
--- src/lib.rt:119:22
 lower-in-requires : tie.Need-lower-in-requires
 lower-in-requires c κs = search needs
 
--- src/lib.rt:119:13
 slice-write-row-11 : tie.Need-slice-write-row-11
 slice-write-row-11 c =
     let k = c .before in
     simp length-set (omega (arith, k .before .before .pre, ap length (by-first-lower (k .before .before .args .way) (k .before .before .args .entry) (lowerIn (k .before .before .args .entry)) refl (k .match .keys6))))
 
--- src/lib.rt:123:22
 lower-in-requires-2 : tie.Need-lower-in-requires-2
 lower-in-requires-2 c κs = search needs
 
--- src/lib.rt:123:13
 slice-write-row-12 : tie.Need-slice-write-row-12
 slice-write-row-12 c =
     let k = c .before in
     omega (arith, k .before .before .pre, ap length (by-lower (k .before .before .args .way) (k .before .before .args .entry) (lowerIn (k .before .before .args .entry)) refl (k .match .keys7)))
 
--- src/lib.rt:90:1
 same-length : tie.Need-same-length
 same-length c = search needs
 
--- src/lib.rt:90:1
 returns : tie.Need-returns
 returns c =
     let p = c .before .before in
@@ -134,11 +113,9 @@ returns c =
     let e : cellsBy (s .args .way) (s .args .entry) ≡ ownBy (s .args .entry) = by-bare (s .args .way) (s .args .entry) (k .match .keys1) in
     (p .put-own .ensures .0 ∙ sym (ap length e), p .put-own .ensures .1 ∙ sym (ap (λ (r : Row). laid r (s .args .row .now)) e))
 
--- src/lib.rt:90:1
 same-length-2 : tie.Need-same-length-2
 same-length-2 c = search needs
 
--- src/lib.rt:90:1
 returns-2 : tie.Need-returns-2
 returns-2 c =
     let k = c .before in
@@ -146,11 +123,9 @@ returns-2 c =
     wrote-two (cellsBy (s .args .way) (s .args .entry)) (s .args .row .now) (s .pre) _ _
     (by-one-capital (s .args .way) (s .args .entry) _ (c .first-in .ensures) (k .match .keys2))
 
--- src/lib.rt:90:1
 same-length-3 : tie.Need-same-length-3
 same-length-3 c = search needs
 
--- src/lib.rt:90:1
 returns-3 : tie.Need-returns-3
 returns-3 c =
     let k = c .before in
@@ -158,11 +133,9 @@ returns-3 c =
     wrote-three (cellsBy (s .args .way) (s .args .entry)) (s .args .row .now) (s .pre) _ _ _
     (by-all-capitals (s .args .way) (s .args .entry) _ (c .first-in2 .ensures) (k .match .keys3))
 
--- src/lib.rt:90:1
 same-length-4 : tie.Need-same-length-4
 same-length-4 c = search needs
 
--- src/lib.rt:90:1
 returns-4 : tie.Need-returns-4
 returns-4 c =
     let k = c .before in
@@ -170,11 +143,9 @@ returns-4 c =
     wrote-two (cellsBy (s .args .way) (s .args .entry)) (s .args .row .now) (s .pre) _ _
     (by-separated (s .args .way) (s .args .entry) _ (c .first-in3 .ensures) (k .match .keys4))
 
--- src/lib.rt:90:1
 same-length-5 : tie.Need-same-length-5
 same-length-5 c = search needs
 
--- src/lib.rt:90:1
 returns-5 : tie.Need-returns-5
 returns-5 c =
     let k = c .before in
@@ -182,11 +153,9 @@ returns-5 c =
     wrote-two (cellsBy (s .args .way) (s .args .entry)) (s .args .row .now) (s .pre) _ _
     (by-first-digit (s .args .way) (s .args .entry) _ (c .first-in4 .ensures) (k .match .keys5))
 
--- src/lib.rt:90:1
 same-length-6 : tie.Need-same-length-6
 same-length-6 c = search needs
 
--- src/lib.rt:90:1
 returns-6 : tie.Need-returns-6
 returns-6 c =
     let k = c .before in
@@ -194,11 +163,9 @@ returns-6 c =
     wrote-two (cellsBy (s .args .way) (s .args .entry)) (s .args .row .now) (s .pre) _ _
     (by-first-lower (s .args .way) (s .args .entry) _ (c .lower-in .ensures) (k .match .keys6))
 
--- src/lib.rt:90:1
 same-length-7 : tie.Need-same-length-7
 same-length-7 c = search needs
 
--- src/lib.rt:90:1
 returns-7 : tie.Need-returns-7
 returns-7 c =
     let k = c .before in
@@ -206,7 +173,6 @@ returns-7 c =
     wrote-one (cellsBy (s .args .way) (s .args .entry)) (s .args .row .now) (s .pre) _
     (by-lower (s .args .way) (s .args .entry) _ (c .lower-in2 .ensures) (k .match .keys7))
 
--- src/lib.rt:90:1
 returns-8 : tie.Need-returns-8
 returns-8 c =
     let s = c .before .before in

@@ -44,39 +44,31 @@ same : (p lent new : List ℕ) (a : Answer) → length p ≤ longestText → nor
     → (a ≡ answerOf castilian p (length lent)) × (new ≡ outOf castilian p lent) → Transcribed castilian p lent a new
 same p lent new a l e h = carried castilian p lent (subst (λ (t : List ℕ). length t ≤ longestText) (sym e) l) p (sym e) a new h
 
--- src/lib.rt:281:32
 normal-length-requires : tie.Need-normal-length-requires
 normal-length-requires c κs = search needs
 
--- src/lib.rt:281:9
 returns : tie.Need-returns
 returns c =
     let s = c .before .before .before .before in
     promised-long castilian (print s) (row s) _ (omega (arith, normal-longer (print s), c .before .if1 .taken)) (c .normal-length .ensures)
 
--- src/lib.rt:283:9
 measure-requires : tie.Need-measure-requires
 measure-requires c κs = search needs
 
--- src/lib.rt:285:25
 enum-known-measured : tie.Need-enum-known-measured
 enum-known-measured c = search needs
 
--- src/lib.rt:285:31
 fitted-requires : tie.Need-fitted-requires
 fitted-requires c κs =
     let m = c .before .before .before .before in
     sym (m .measure .ensures) ∙ c .before .before .measured .given .1
 
--- src/lib.rt:286:27
 enum-known-measured-2 : tie.Need-enum-known-measured-2
 enum-known-measured-2 c = search needs
 
--- src/lib.rt:287:16
 is-normal-requires : tie.Need-is-normal-requires
 is-normal-requires c κs = search needs
 
--- src/lib.rt:288:17
 returns-2 : tie.Need-returns-2
 returns-2 c =
     let n = c .before in
@@ -86,15 +78,12 @@ returns-2 c =
     let e : normalOf (print s) ≡ print s = subst (λ (b : Bool). TellsNormal b (print s)) (c .if2 .taken) (n .is-normal .ensures) in
     same (print s) (row s) (row s) _ (m .before .if1 .left) e (measured-refused castilian (print s) (row s) _ (sym (m .measure .ensures) ∙ k .measured2 .given .1))
 
--- src/lib.rt:290:13
 transcribe-copy-requires : tie.Need-transcribe-copy-requires
 transcribe-copy-requires c κs = search needs
 
--- src/lib.rt:277:1
 same-length : tie.Need-same-length
 same-length c = search needs
 
--- src/lib.rt:277:1
 returns-3 : tie.Need-returns-3
 returns-3 c =
     let f = c .before .before in
@@ -103,11 +92,9 @@ returns-3 c =
     let s = m .before .before .before .before in
     same (print s) (row s) _ _ (m .before .if1 .left) (normal-cells (print s) _ (sym (m .measure .ensures) ∙ k .before .measured .given .1)) (f .fitted .ensures)
 
--- src/lib.rt:277:1
 same-length-2 : tie.Need-same-length-2
 same-length-2 c = search needs
 
--- src/lib.rt:277:1
 returns-4 : tie.Need-returns-4
 returns-4 c = search needs
 

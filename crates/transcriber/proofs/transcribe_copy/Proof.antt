@@ -53,39 +53,30 @@ made k = told (from-k k) (Text (k .before .normalised .given .0 .0)) (k .before 
 text-is : (k : K) → take (k .before .normalised .given .0 .0) (from-k k .normalise .last .1 .0) ≡ normalOf (print (from-k k))
 text-is k = front (normalOf (print (from-k k))) cleared (from-k k .normalise .last .1 .0) (k .before .normalised .given .0 .0) (made k .1) (made k .2)
 
--- src/lib.rt:267:47
 slice-aggregate-normalise : tie.Need-slice-aggregate-normalise
 slice-aggregate-normalise c = search needs
 
--- src/lib.rt:267:9
 normalise-requires : tie.Need-normalise-requires
 normalise-requires c κs = search needs
 
--- src/lib.rt:269:26
 enum-known-normalised : tie.Need-enum-known-normalised
 enum-known-normalised c = search needs
 
--- src/lib.rt:269:50
 array-share-prefix-text : tie.Need-array-share-prefix-text
 array-share-prefix-text c = let m = made c in omega (arith, m .0, m .1)
 
--- src/lib.rt:269:50
 slice-aggregate-transcribe-normal : tie.Need-slice-aggregate-transcribe-normal
 slice-aggregate-transcribe-normal c = made (c .before) .1 ∙ ap length (sym (text-is (c .before)))
 
--- src/lib.rt:269:32
 transcribe-normal-requires : tie.Need-transcribe-normal-requires
 transcribe-normal-requires c κs = let k = c .before .before in subst (λ (t : List ℕ). length t ≤ longestText) (sym (text-is k)) (made k .0)
 
--- src/lib.rt:270:28
 enum-known-normalised-2 : tie.Need-enum-known-normalised-2
 enum-known-normalised-2 c = search needs
 
--- src/lib.rt:263:1
 same-length : tie.Need-same-length
 same-length c = search needs
 
--- src/lib.rt:263:1
 returns : tie.Need-returns
 returns c =
     let t = c .before .before in
@@ -93,7 +84,6 @@ returns c =
     let n = from-k k in
     carried castilian (print n) (row n) (made k .0) _ (text-is k) _ _ (t .transcribe-normal .ensures)
 
--- src/lib.rt:263:1
 returns-2 : tie.Need-returns-2
 returns-2 c =
     let n = c .before .before .before .before in

@@ -10,33 +10,26 @@ use Rattle.transcriber.proofs.transcribe_normal.Lts as lts
 use Rattle.transcriber.proofs.fitted.Reads as fitted-reads
 use Rattle.transcriber.proofs.measure.Reads as measure-reads
 
--- src/lib.rt:254:9
 measure-requires : tie.Need-measure-requires
 measure-requires c κs = search needs
 
--- src/lib.rt:256:25
 enum-known-measured : tie.Need-enum-known-measured
 enum-known-measured c = search needs
 
--- src/lib.rt:256:31
 fitted-requires : tie.Need-fitted-requires
 fitted-requires c κs =
     let m = c .before .before .before .before in
     sym (m .measure .ensures) ∙ c .before .before .measured .given .1
 
--- src/lib.rt:257:27
 enum-known-measured-2 : tie.Need-enum-known-measured-2
 enum-known-measured-2 c = search needs
 
--- src/lib.rt:250:1
 same-length : tie.Need-same-length
 same-length c = search needs
 
--- src/lib.rt:250:1
 returns : tie.Need-returns
 returns c = search needs
 
--- src/lib.rt:250:1
 returns-2 : tie.Need-returns-2
 returns-2 c =
     let k = c .before in

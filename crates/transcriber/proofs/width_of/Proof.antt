@@ -13,11 +13,9 @@ use Rattle.transcriber.proofs.width_of.Reads as reads
 use Rattle.transcriber.proofs.width_of.Lts as lts
 use Rattle.entries.proofs.count_in.Reads as count-in-reads
 
--- src/lib.rt:135:17
 count-in-requires : tie.Need-count-in-requires
 count-in-requires c κs = search needs
 
--- src/lib.rt:131:1
 returns : tie.Need-returns
 returns c =
     let k = c .before in
@@ -27,43 +25,36 @@ returns c =
     in
     (e, omega (arith, c .count-in .ensures))
 
--- src/lib.rt:131:1
 returns-2 : tie.Need-returns-2
 returns-2 c =
     let s = c .before in
     (sym (ap length (by-one-capital (s .args .way) (s .args .entry) (firstIn (s .args .entry)) refl (c .match .keys2))), omega arith)
 
--- src/lib.rt:131:1
 returns-3 : tie.Need-returns-3
 returns-3 c =
     let s = c .before in
     (sym (ap length (by-all-capitals (s .args .way) (s .args .entry) (firstIn (s .args .entry)) refl (c .match .keys3))), omega arith)
 
--- src/lib.rt:131:1
 returns-4 : tie.Need-returns-4
 returns-4 c =
     let s = c .before in
     (sym (ap length (by-separated (s .args .way) (s .args .entry) (firstIn (s .args .entry)) refl (c .match .keys4))), omega arith)
 
--- src/lib.rt:131:1
 returns-5 : tie.Need-returns-5
 returns-5 c =
     let s = c .before in
     (sym (ap length (by-first-digit (s .args .way) (s .args .entry) (firstIn (s .args .entry)) refl (c .match .keys5))), omega arith)
 
--- src/lib.rt:131:1
 returns-6 : tie.Need-returns-6
 returns-6 c =
     let s = c .before in
     (sym (ap length (by-first-lower (s .args .way) (s .args .entry) (lowerIn (s .args .entry)) refl (c .match .keys6))), omega arith)
 
--- src/lib.rt:131:1
 returns-7 : tie.Need-returns-7
 returns-7 c =
     let s = c .before in
     (sym (ap length (by-lower (s .args .way) (s .args .entry) (lowerIn (s .args .entry)) refl (c .match .keys7))), omega arith)
 
--- src/lib.rt:131:1
 returns-8 : tie.Need-returns-8
 returns-8 c =
     let s = c .before in

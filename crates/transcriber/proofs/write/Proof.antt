@@ -116,46 +116,36 @@ odd c =
     ap (cellsBy (c .settled .result % 8)) (entry-is u)
     ∙ cells-here castilian held (text l) (l .loop .place) (past l) (c .settled .result) (deed-told c) (low c)
 
--- src/lib.rt:223:5
 loop-holds : tie.Need-loop-holds Inv-loop μ-loop
 loop-holds c = wid-start castilian held (c .before .before .args .text .now) (c .before .before .args .row .now) (c .before .before .pre .0)
 
--- src/lib.rt:224:39
 mul-entry-of : tie.Need-mul-entry-of Inv-loop μ-loop
 mul-entry-of c = search needs
 
--- src/lib.rt:224:39
 shared-slice-read-entry-of : tie.Need-shared-slice-read-entry-of Inv-loop μ-loop
 shared-slice-read-entry-of c = search needs
 
--- src/lib.rt:224:13
 entry-of-requires : tie.Need-entry-of-requires Inv-loop μ-loop
 entry-of-requires c κs = search needs
 
--- src/lib.rt:225:12
 is-usual-requires : tie.Need-is-usual-requires Inv-loop μ-loop
 is-usual-requires c κs = search needs
 
--- src/lib.rt:226:29
 sub-put-own : tie.Need-sub-put-own Inv-loop μ-loop
 sub-put-own c = search needs
 
--- src/lib.rt:226:29
 part-put-own-start : tie.Need-part-put-own-start Inv-loop μ-loop
 part-put-own-start c = search needs
 
--- src/lib.rt:226:29
 part-put-own-end : tie.Need-part-put-own-end Inv-loop μ-loop
 part-put-own-end c = search needs
 
--- src/lib.rt:226:21
 put-own-requires : tie.Need-put-own-requires Inv-loop μ-loop
 put-own-requires c κs =
     let u = c .before .before in
     let l = at-u u in
     wid-room castilian held (text l) (row₀ l) (l .loop .row) (l .loop .state) (l .loop .n) (l .loop .place) (l .loop .inv) (start l .pre .1) (inside u) (ownBy (u .before .entry-of .result)) (usual u (c .before .if1 .taken) .0)
 
--- src/lib.rt:226:17
 add-n : tie.Need-add-n Inv-loop μ-loop
 add-n c =
     let p = c .before .before in
@@ -169,39 +159,30 @@ add-n c =
       wid-few castilian held (text l) (row₀ l) (l .loop .row) (l .loop .state) (l .loop .n) (l .loop .place) (l .loop .inv) (start l .pre .1) (inside u) (ownBy (u .before .entry-of .result)) (usual u (p .before .before .if1 .taken) .0),
     )
 
--- src/lib.rt:227:13
 then-in-requires : tie.Need-then-in-requires Inv-loop μ-loop
 then-in-requires c κs = search needs
 
--- src/lib.rt:229:45
 add-settled : tie.Need-add-settled Inv-loop μ-loop
 add-settled c = search needs
 
--- src/lib.rt:229:74
 class-in-requires : tie.Need-class-in-requires Inv-loop μ-loop
 class-in-requires c κs = search needs
 
--- src/lib.rt:229:52
 deed-of-requires : tie.Need-deed-of-requires Inv-loop μ-loop
 deed-of-requires c κs = search needs
 
--- src/lib.rt:229:17
 settled-requires : tie.Need-settled-requires Inv-loop μ-loop
 settled-requires c κs = search needs
 
--- src/lib.rt:230:30
 sub-put-sign : tie.Need-sub-put-sign Inv-loop μ-loop
 sub-put-sign c = search needs
 
--- src/lib.rt:230:30
 part-put-sign-start : tie.Need-part-put-sign-start Inv-loop μ-loop
 part-put-sign-start c = search needs
 
--- src/lib.rt:230:30
 part-put-sign-end : tie.Need-part-put-sign-end Inv-loop μ-loop
 part-put-sign-end c = search needs
 
--- src/lib.rt:230:21
 put-sign-requires : tie.Need-put-sign-requires Inv-loop μ-loop
 put-sign-requires c κs =
     let d = c .before in
@@ -209,7 +190,6 @@ put-sign-requires c κs =
     let l = at-u u in
     wid-room castilian held (text l) (row₀ l) (l .loop .row) (l .loop .state) (l .loop .n) (l .loop .place) (l .loop .inv) (start l .pre .1) (inside u) (cellsBy (d .settled .result % 8) (u .before .entry-of .result)) (odd d)
 
--- src/lib.rt:230:17
 add-n-2 : tie.Need-add-n-2 Inv-loop μ-loop
 add-n-2 c =
     let p = c .before .before in
@@ -224,15 +204,12 @@ add-n-2 c =
       wid-few castilian held (text l) (row₀ l) (l .loop .row) (l .loop .state) (l .loop .n) (l .loop .place) (l .loop .inv) (start l .pre .1) (inside u) (cellsBy (d .settled .result % 8) (u .before .entry-of .result)) (odd d),
     )
 
--- src/lib.rt:233:9
 add-place : tie.Need-add-place Inv-loop μ-loop
 add-place c = search needs
 
--- src/lib.rt:223:5
 loop-less : tie.Need-loop-less Inv-loop μ-loop
 loop-less c = search needs
 
--- src/lib.rt:223:5
 loop-again : tie.Need-loop-again Inv-loop μ-loop
 loop-again c =
     let u = c .before in
@@ -249,11 +226,9 @@ loop-again c =
     (wid-on castilian held (text l) (row₀ l) (l .loop .row) (l .loop .state) (l .loop .n) (l .loop .place) (l .loop .inv) (start l .pre .1) (inside u) (cellsBy (d .settled .result % 8) (u .before .entry-of .result)) (odd d) (d .settled .result / 8) (j .5 .result) _ (c .if1 .row)
     (state-after castilian held t (l .loop .place) (past l) (d .settled .result) (deed-told d) (low d)) (j .5 .ensures .0) (j .5 .ensures .1) (j .8)))) (c .if1 .came)
 
--- src/lib.rt:216:1
 same-length : tie.Need-same-length Inv-loop μ-loop
 same-length c = search needs
 
--- src/lib.rt:216:1
 returns : tie.Need-returns Inv-loop μ-loop
 returns c =
     let l = c .before in

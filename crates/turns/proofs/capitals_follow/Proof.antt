@@ -21,15 +21,12 @@ use Rattle.turns.proofs.small_follows.Reads as small-follows-reads
 told : (c : tie.After-is-capital) → c .is-capital .result ≡ isCapital (classAt castilian (c .before .before .before .args .text .now) (c .before .before .before .args .place))
 told c = c .is-capital .ensures ∙ ap (λ (n : ℕ). isCapital (class (sortIn castilian n))) (c .before .point-at .ensures)
 
--- src/lib.rt:210:20
 point-at-requires : tie.Need-point-at-requires
 point-at-requires c κs = search needs
 
--- src/lib.rt:210:9
 is-capital-requires : tie.Need-is-capital-requires
 is-capital-requires c κs = search needs
 
--- src/lib.rt:211:9
 returns : tie.Need-returns
 returns c =
     let a = c .before in
@@ -37,11 +34,9 @@ returns c =
     let e : isCapital (classAt castilian (s .args .text .now) (s .args .place)) ≡ false = sym (told a) ∙ not-true (a .is-capital .result) (c .if1 .taken) in
     sym (capitals-at castilian zero-unlisted (s .args .text .now) (s .args .place) ∙ rw e)
 
--- src/lib.rt:213:6
 small-follows-requires : tie.Need-small-follows-requires
 small-follows-requires c κs = search needs
 
--- src/lib.rt:207:1
 returns-2 : tie.Need-returns-2
 returns-2 c =
     let a = c .before .before in

@@ -11,24 +11,19 @@ use Rattle.turns.proofs.deed_of.Reads as reads
 use Rattle.turns.proofs.deed_of.Lts as lts
 use Rattle.turns.proofs.table.deed_at.Reads as deed-at-reads
 
--- src/lib.rt:251:17
 mul-place : tie.Need-mul-place
 mul-place c = search needs
 
--- src/lib.rt:251:17
 add-place : tie.Need-add-place
 add-place c = search needs
 
--- src/lib.rt:253:9
 returns : tie.Need-returns
 unfolding deedOf deeds
 returns c = sym (List·getD-eq-default deeds noSign (c .if1 .taken))
 
--- src/lib.rt:255:5
 deed-at-requires : tie.Need-deed-at-requires
 deed-at-requires c κs = search needs
 
--- src/lib.rt:248:1
 returns-2 : tie.Need-returns-2
 unfolding deedOf
 returns-2 c = c .deed-at .ensures

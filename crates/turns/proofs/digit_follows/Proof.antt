@@ -13,15 +13,12 @@ use Rattle.turns.proofs.digit_follows.Lts as lts
 use Rattle.turns.proofs.is_digit.Reads as is-digit-reads
 use Rattle.turns.proofs.point_at.Reads as point-at-reads
 
--- src/lib.rt:188:14
 point-at-requires : tie.Need-point-at-requires
 point-at-requires c κs = search needs
 
--- src/lib.rt:188:5
 is-digit-requires : tie.Need-is-digit-requires
 is-digit-requires c κs = search needs
 
--- src/lib.rt:185:1
 returns : tie.Need-returns
 returns c =
     c .is-digit .ensures

@@ -31,25 +31,20 @@ neither c no-stop no-bar = (
   known castilian (λ k. k is aBar) (bar ∷ []) 0 0 tt tt tt refl c ∙ told-above (bar ∷ []) 0 0 c (rw (ne-eqb c bar no-bar)) zero-le,
 )
 
--- src/lib.rt:221:22
 is-ordinal-requires : tie.Need-is-ordinal-requires
 is-ordinal-requires c κs = search needs
 
--- src/lib.rt:222:16
 is-digit-requires : tie.Need-is-digit-requires
 is-digit-requires c κs = search needs
 
--- src/lib.rt:217:1
 returns : tie.Need-returns
 unfolding endsForm sortIn castilian class
 returns c = c .is-ordinal .ensures ∙ sym (ap (λ (n : ℕ). endsForm castilian n (c .before .before .args .next)) (c .before .match .keys1))
 
--- src/lib.rt:217:1
 returns-2 : tie.Need-returns-2
 unfolding endsForm sortIn castilian class
 returns-2 c = c .is-digit .ensures ∙ sym (ap (λ (n : ℕ). endsForm castilian n (c .before .before .args .next)) (c .before .match .keys2))
 
--- src/lib.rt:217:1
 returns-3 : tie.Need-returns-3
 unfolding endsForm
 returns-3 c =

@@ -22,35 +22,27 @@ Inv-loop text from place₀ place = form-next (futureAt castilian text place) �
 abbrev μ-loop : tie.MeasureT-loop
 μ-loop text from place₀ place = length text - place
 
--- src/lib.rt:232:5
 loop-holds : tie.Need-loop-holds Inv-loop μ-loop
 loop-holds c = refl
 
--- src/lib.rt:233:21
 mul-point : tie.Need-mul-point Inv-loop μ-loop
 mul-point c = search needs
 
--- src/lib.rt:233:21
 shared-slice-read-point : tie.Need-shared-slice-read-point Inv-loop μ-loop
 shared-slice-read-point c = search needs
 
--- src/lib.rt:234:13
 is-digit-requires : tie.Need-is-digit-requires Inv-loop μ-loop
 is-digit-requires c κs = search needs
 
--- src/lib.rt:235:52
 add-point-at : tie.Need-add-point-at Inv-loop μ-loop
 add-point-at c = search needs
 
--- src/lib.rt:235:37
 point-at-requires : tie.Need-point-at-requires Inv-loop μ-loop
 point-at-requires c κs = search needs
 
--- src/lib.rt:235:13
 ends-form-requires : tie.Need-ends-form-requires Inv-loop μ-loop
 ends-form-requires c κs = search needs
 
--- src/lib.rt:235:13
 returns : tie.Need-returns Inv-loop μ-loop
 returns c =
     let b = c .before in
@@ -62,15 +54,12 @@ returns c =
     ∙ sym (form-at castilian zero-unlisted text (l .loop .place) (sym (a .is-digit .ensures) ∙ not-true (a .is-digit .result) (b .before .if1 .taken)))
     ∙ l .loop .inv
 
--- src/lib.rt:237:9
 add-place : tie.Need-add-place Inv-loop μ-loop
 add-place c = search needs
 
--- src/lib.rt:232:5
 loop-less : tie.Need-loop-less Inv-loop μ-loop
 loop-less c = search needs
 
--- src/lib.rt:232:5
 loop-again : tie.Need-loop-again Inv-loop μ-loop
 loop-again c =
     let a = c .before in
@@ -78,7 +67,6 @@ loop-again c =
     let text = l .before .before .args .text .now in
     sym (form-on castilian zero-unlisted text (l .loop .place) (sym (a .is-digit .ensures) ∙ not-false (a .is-digit .result) (c .if1 .left))) ∙ l .loop .inv
 
--- src/lib.rt:228:1
 returns-2 : tie.Need-returns-2 Inv-loop μ-loop
 returns-2 c =
     let l = c .before in

@@ -7,19 +7,15 @@ use Rattle.turns.proofs.point_at.Tie as tie
 use Rattle.turns.proofs.point_at.Reads as reads
 use Rattle.turns.proofs.point_at.Lts as lts
 
--- src/lib.rt:181:29
 mul-result : tie.Need-mul-result
 mul-result c = search needs
 
--- src/lib.rt:181:29
 shared-slice-read-result : tie.Need-shared-slice-read-result
 shared-slice-read-result c = search needs
 
--- src/lib.rt:178:1
 returns : tie.Need-returns
 returns c = search needs
 
--- src/lib.rt:178:1
 returns-2 : tie.Need-returns-2
 returns-2 c = sym (List·getD-eq-default (c .before .args .text .now) _ (c .if1 .left))
 

@@ -17,79 +17,66 @@ use Rattle.turns.proofs.form_follows.Reads as form-follows-reads
 abbrev ahead : tie.Start → Future
 ahead s = futureAt castilian (s .args .text .now) (s .args .next)
 
--- src/lib.rt:256:16
 capitals-follow-requires : tie.Need-capitals-follow-requires
 capitals-follow-requires c κs = search needs
 
--- src/lib.rt:263:16
 form-follows-requires : tie.Need-form-follows-requires
 form-follows-requires c κs = search needs
 
--- src/lib.rt:270:16
 digit-follows-requires : tie.Need-digit-follows-requires
 digit-follows-requires c κs = search needs
 
--- src/lib.rt:277:16
 digit-follows-requires-2 : tie.Need-digit-follows-requires-2
 digit-follows-requires-2 c κs = search needs
 
--- src/lib.rt:251:1
 returns : tie.Need-returns
 returns c =
     let a = c .before in
     let s = a .before .before .before in
     settled-run (s .args .deed) (ahead s) (a .capitals-follow .result) true (c .if1 .taken) (a .before .match .keys1) (a .capitals-follow .ensures)
 
--- src/lib.rt:251:1
 returns-2 : tie.Need-returns-2
 returns-2 c =
     let a = c .before in
     let s = a .before .before .before in
     settled-run (s .args .deed) (ahead s) (a .capitals-follow .result) false (c .if1 .left) (a .before .match .keys1) (a .capitals-follow .ensures)
 
--- src/lib.rt:251:1
 returns-3 : tie.Need-returns-3
 returns-3 c =
     let a = c .before in
     let s = a .before .before .before in
     settled-number (s .args .deed) (ahead s) (a .form-follows .result) true (c .if2 .taken) (a .before .match .keys2) (a .form-follows .ensures)
 
--- src/lib.rt:251:1
 returns-4 : tie.Need-returns-4
 returns-4 c =
     let a = c .before in
     let s = a .before .before .before in
     settled-number (s .args .deed) (ahead s) (a .form-follows .result) false (c .if2 .left) (a .before .match .keys2) (a .form-follows .ensures)
 
--- src/lib.rt:251:1
 returns-5 : tie.Need-returns-5
 returns-5 c =
     let a = c .before in
     let s = a .before .before .before in
     settled-point (s .args .deed) (ahead s) (a .digit-follows .result) true (c .if3 .taken) (a .before .match .keys3) (a .digit-follows .ensures)
 
--- src/lib.rt:251:1
 returns-6 : tie.Need-returns-6
 returns-6 c =
     let a = c .before in
     let s = a .before .before .before in
     settled-point (s .args .deed) (ahead s) (a .digit-follows .result) false (c .if3 .left) (a .before .match .keys3) (a .digit-follows .ensures)
 
--- src/lib.rt:251:1
 returns-7 : tie.Need-returns-7
 returns-7 c =
     let a = c .before in
     let s = a .before .before .before in
     settled-one (s .args .deed) (ahead s) (a .digit-follows2 .result) true (c .if4 .taken) (a .before .match .keys4) (a .digit-follows2 .ensures)
 
--- src/lib.rt:251:1
 returns-8 : tie.Need-returns-8
 returns-8 c =
     let a = c .before in
     let s = a .before .before .before in
     settled-one (s .args .deed) (ahead s) (a .digit-follows2 .result) false (c .if4 .left) (a .before .match .keys4) (a .digit-follows2 .ensures)
 
--- src/lib.rt:251:1
 returns-9 : tie.Need-returns-9
 returns-9 c =
     let s = c .before .before in

@@ -21,27 +21,21 @@ Inv-loop text from place₀ place = mixed-next (futureAt castilian text place) �
 abbrev μ-loop : tie.MeasureT-loop
 μ-loop text from place₀ place = length text - place
 
--- src/lib.rt:196:5
 loop-holds : tie.Need-loop-holds Inv-loop μ-loop
 loop-holds c = refl
 
--- src/lib.rt:197:21
 mul-point : tie.Need-mul-point Inv-loop μ-loop
 mul-point c = search needs
 
--- src/lib.rt:197:21
 shared-slice-read-point : tie.Need-shared-slice-read-point Inv-loop μ-loop
 shared-slice-read-point c = search needs
 
--- src/lib.rt:198:13
 is-capital-requires : tie.Need-is-capital-requires Inv-loop μ-loop
 is-capital-requires c κs = search needs
 
--- src/lib.rt:199:13
 is-small-requires : tie.Need-is-small-requires Inv-loop μ-loop
 is-small-requires c κs = search needs
 
--- src/lib.rt:199:13
 returns : tie.Need-returns Inv-loop μ-loop
 returns c =
     let a = c .before .before in
@@ -51,15 +45,12 @@ returns c =
     ∙ sym (small-at castilian zero-unlisted text (l .loop .place) (sym (a .is-capital .ensures) ∙ not-true (a .is-capital .result) (c .before .if1 .taken)))
     ∙ l .loop .inv
 
--- src/lib.rt:201:9
 add-place : tie.Need-add-place Inv-loop μ-loop
 add-place c = search needs
 
--- src/lib.rt:196:5
 loop-less : tie.Need-loop-less Inv-loop μ-loop
 loop-less c = search needs
 
--- src/lib.rt:196:5
 loop-again : tie.Need-loop-again Inv-loop μ-loop
 loop-again c =
     let a = c .before in
@@ -67,7 +58,6 @@ loop-again c =
     let text = l .before .before .args .text .now in
     sym (small-on castilian zero-unlisted text (l .loop .place) (sym (a .is-capital .ensures) ∙ not-false (a .is-capital .result) (c .if1 .left))) ∙ l .loop .inv
 
--- src/lib.rt:192:1
 returns-2 : tie.Need-returns-2 Inv-loop μ-loop
 returns-2 c =
     let l = c .before in
