@@ -120,7 +120,7 @@ const AS_HYPHEN: u64 = HYPHEN as u64 + THEN * HYPHENED as u64 + IN_HYPHENED + IN
 
 const AS_DASH: u64 = DASH as u64 + THEN * DASHED as u64 + IN_HYPHENED;
 
-const AS_BAR: u64 = BAR as u64 + THEN * BARRED as u64 + IN_ANY;
+const AS_BAR: u64 = BAR as u64 + THEN * BARRED as u64 + IN_ANY - IN_LOWERED;
 
 const AS_MASCULINE: u64 = MASCULINE as u64 + THEN * FREE as u64 + IN_ANY;
 

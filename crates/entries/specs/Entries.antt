@@ -72,7 +72,8 @@ oddIn e = e / oddAt
 abbrev pub usualIn : ℕ → ℕ → Bool
 usualIn e s = eqb (oddIn e / 2 ^ (s % 64) % 2) 0
 
--- AS USUAL. The state after a code point that is written with its own cells alone, as most are in most states.
+-- AS USUAL. The state after a code point that is written with its own cells alone, as most are in most states. (U+2044 has no cell of its own,
+-- and none is written for it.)
 unfoldable pub thenOf : Class → ℕ
 thenOf aToJ = mixed
 thenOf otherSmall = mixed
@@ -108,7 +109,7 @@ oddStates aStop = number ∷ lowered ∷ []
 oddStates aComma = number ∷ []
 oddStates aHyphen = hyphened ∷ dashed ∷ []
 oddStates aDash = hyphened ∷ []
-oddStates aBar = every
+oddStates aBar = but lowered every
 oddStates masculine = every
 oddStates feminine = every
 oddStates aPercent = []

@@ -27,7 +27,7 @@ use Rattle.entries.specs.Entries.{word, entryOf, classIn, thenIn, usualIn, then
 use Rattle.entries.proofs.Keys.{at-every}
 use Rattle.entries.proofs.Facts.{Worded, worded}
 use Rattle.turns.specs.Acts as act
-use Rattle.turns.specs.Stages.{itemsFrom, futureAt, stageAt, deedOf, settledBy, wayOf, actOf}
+use Rattle.turns.specs.Stages.{itemsFrom, futureAt, stageAt, deedOf, settledBy, wayOf, silentAs, actOf}
 use Rattle.turns.proofs.Ahead.{zero-unlisted, future-step}
 use Rattle.turns.proofs.Machine.{turn-is, usual-is, stage-small, wayNumber, faultless, done-is, done-low}
 use Rattle.transcriber.specs.Passes.{ownBy, cellsBy}
@@ -74,7 +74,7 @@ written-right : Sort → Way → Bool
 written-right s w = not (allowed w (class s)) || same-row (cellsBy (wayOf w) (word s)) (signCells w s)
 
 pub all-written-right : Sort → Bool
-all-written-right s = every (written-right s) (ways .members)
+all-written-right s = every (written-right s) (ways .members) && same-row (cellsBy (silentAs (class s)) (word s)) []
 
 -- what a table must pass: its words have their fields, its signs their cells, and 0 has no sign
 pub record Held (tb : Table) : Type 0 where
@@ -83,19 +83,22 @@ pub record Held (tb : Table) : Type 0 where
   pub written : (c : ℕ) → T (all-written-right (sortIn tb c))
 
 pub held : Held castilian
-unfolding all-written-right written-right allowed same-row cellsBy ownBy wayOf word thenOf oddStates bits markNumber signCells ownCells lowerCells markOf class isDigitCell dots castilian
+unfolding all-written-right written-right allowed same-row cellsBy ownBy wayOf silentAs word thenOf oddStates bits markNumber signCells ownCells lowerCells markOf class isDigitCell dots castilian
 held = record { words = worded; zero = zero-unlisted; written = λ c. at-every all-written-right castilian tt tt c }
 
 module _ (tb : Table) (h : Held tb) where
   cells-by : (c : ℕ) (x : Outcome) → T (allowed-outcome x (class (sortIn tb c))) → faultless x ≡ true
-      → cellsBy (wayNumber x) (entryOf tb c) ≡ outcome-cells x (sortIn tb c)
-  unfolding allowed-outcome wayNumber entryOf all-written-right written-right cellsBy
+      → cellsBy (wayNumber (class (sortIn tb c)) x) (entryOf tb c) ≡ outcome-cells x (sortIn tb c)
+  unfolding allowed-outcome wayNumber entryOf all-written-right written-right
   cells-by c (fault x) t e = absurd (true≢false (sym e))
-  cells-by c silent t e = refl
+  cells-by c silent t e =
+      row-same (cellsBy (silentAs (class (sortIn tb c))) (word (sortIn tb c))) []
+      (and-right (every (written-right (sortIn tb c)) (ways .members)) (same-row (cellsBy (silentAs (class (sortIn tb c))) (word (sortIn tb c))) []) (h .written c))
   cells-by c (sign w) t e =
       row-same (cellsBy (wayOf w) (word (sortIn tb c))) (signCells w (sortIn tb c))
       (implies (allowed w (class (sortIn tb c))) (same-row (cellsBy (wayOf w) (word (sortIn tb c))) (signCells w (sortIn tb c))) t
-      (ways .at (written-right (sortIn tb c)) (h .written c) w))
+      (ways .at (written-right (sortIn tb c))
+      (and-left (every (written-right (sortIn tb c)) (ways .members)) (same-row (cellsBy (silentAs (class (sortIn tb c))) (word (sortIn tb c))) []) (h .written c)) w))
 
   -- A PLACE: i of a text, after a past
   module _ (text : List ℕ) (i : ℕ) (past : Past) where
@@ -111,9 +114,12 @@ module _ (tb : Table) (h : Held tb) where
     abbrev pub outcomeHere : Outcome
     outcomeHere = rule past (class sortHere) ahead
 
+    abbrev pub actHere : ℕ
+    actHere = actOf (class sortHere) outcomeHere (stageAt next ahead)
+
     -- the deed that the table and the read-ahead give is that of the rules' outcome
     pub deed-is : (s d : ℕ) → s ≡ stageAt past (futureAt tb text i) → d ≡ settledBy (deedOf s (classIn (entryOf tb (getD text i 0)))) ahead
-        → d ≡ actOf outcomeHere (stageAt next ahead)
+        → d ≡ actHere
     deed-is s d at e =
         e
         ∙ ap (λ (c : ℕ). settledBy (deedOf s c) ahead) (h .words .class-is (getD text i 0))
@@ -131,11 +137,11 @@ module _ (tb : Table) (h : Held tb) where
         ∙ sym (ap (λ (k : ℕ). settledBy (deedOf s k) ahead) (h .words .class-is c))
 
     -- a deed that is no fault: the state after it, and its cells
-    module _ (d : ℕ) (is-d : d ≡ actOf outcomeHere (stageAt next ahead)) where
+    module _ (d : ℕ) (is-d : d ≡ actHere) where
       facts : d < act.questions
-          → (faultless outcomeHere ≡ true) × (actOf outcomeHere (stageAt next ahead) / act.ways ≡ stageAt next ahead)
-          × (actOf outcomeHere (stageAt next ahead) % act.ways ≡ wayNumber outcomeHere)
-      facts l = done-is outcomeHere (stageAt next ahead) (stage-small next ahead) (subst (λ (n : ℕ). n < act.questions) is-d l)
+          → (faultless outcomeHere ≡ true) × (actHere / act.ways ≡ stageAt next ahead)
+          × (actHere % act.ways ≡ wayNumber (class sortHere) outcomeHere)
+      facts l = done-is (class sortHere) outcomeHere (stageAt next ahead) (stage-small next ahead) (subst (λ (n : ℕ). n < act.questions) is-d l)
 
       pub state-after : d < act.questions → d / act.ways ≡ stageAt next ahead
       state-after l = ap (λ (n : ℕ). n / act.ways) is-d ∙ facts l .1
@@ -151,7 +157,7 @@ module _ (tb : Table) (h : Held tb) where
       no-fault l = facts l .0
 
       pub low-deed : faultless outcomeHere ≡ true → d < act.questions
-      low-deed e = subst (λ (n : ℕ). n < act.questions) (sym is-d) (done-low outcomeHere (stageAt next ahead) (stage-small next ahead) e)
+      low-deed e = subst (λ (n : ℕ). n < act.questions) (sym is-d) (done-low (class sortHere) outcomeHere (stageAt next ahead) (stage-small next ahead) e)
 
     -- the row and the verdict, from this place on
     module _ (inside : i < length text) where

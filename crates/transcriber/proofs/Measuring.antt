@@ -31,7 +31,7 @@ use Rattle.transcriber.specs.declared.Pairs.{Pairs}
 use Rattle.transcriber.specs.declared.Pairs.the-variants.{Stand, Broken}
 use Rattle.transcriber.proofs.Cells.{own-length, by-bare}
 use Rattle.transcriber.proofs.Pairing.{kindBy, openerBy, kind-small, mark-says, Turned, pairs-mean, closed-is, none-open}
-use Rattle.transcriber.proofs.Going.{Held, sortHere, next, ahead, outcomeHere, deed-is, usual-deed, state-after, cells-here, no-fault, row-here, verdict-here, row-end, verdict-end, row-start, verdict-start, judge-on}
+use Rattle.transcriber.proofs.Going.{Held, sortHere, next, ahead, outcomeHere, actHere, deed-is, usual-deed, state-after, cells-here, no-fault, row-here, verdict-here, row-end, verdict-end, row-start, verdict-start, judge-on}
 
 -- what `opened`, `state`, `n` and `i` are between two turns; the past is what the state stands for
 pub record Mid (tb : Table) (text : List ℕ) (opened state n i : ℕ) : Type 0 where
@@ -110,7 +110,7 @@ module _ (tb : Table) (h : Held tb) (text : List ℕ) where
     state-small = subst (λ (s : ℕ). s < states) (sym at) (stage-small past (futureAt tb text i))
 
     module _ (d : ℕ) (is-d : d ≡ settledBy (deedOf state (classIn e)) (ahead tb h text i past)) where
-      pub act-is : d ≡ actOf (outcomeHere tb h text i past) (stageAt (next tb h text i past) (ahead tb h text i past))
+      pub act-is : d ≡ actHere tb h text i past
       act-is = deed-is tb h text i past state d at is-d
 
       pub went-deed : d < act.questions → (w : ℕ) → w ≡ length (cellsBy (d % act.ways) e) → Went past i w (d / act.ways)
@@ -170,7 +170,7 @@ module _ (tb : Table) (h : Held tb) (text : List ℕ) where
             sym (m .whole) ∙ verdict-here tb h text i (m .past) l (opensOf opened)
             ∙ rw (p .stands, p .turns, e)
 
-        pub mid-fault : (d : ℕ) → d ≡ actOf (outcomeHere tb h text i (m .past)) (stageAt (next tb h text i (m .past)) (ahead tb h text i (m .past)))
+        pub mid-fault : (d : ℕ) → d ≡ actHere tb h text i (m .past)
             → act.questions ≤ d → Refused (faultBy d i) ≡ measuredOf tb text
         unfolding actOf faultBy
         mid-fault d is-d q = go (outcomeHere tb h text i (m .past)) refl
@@ -180,13 +180,13 @@ module _ (tb : Table) (h : Held tb) (text : List ℕ) where
 
             high : faultless (outcomeHere tb h text i (m .past)) ≡ true → ⊥
             high e =
-                let k = done-low (outcomeHere tb h text i (m .past)) _ (stage-small (next tb h text i (m .past)) (ahead tb h text i (m .past))) e in
+                let k = done-low (class (sortHere tb h text i (m .past))) (outcomeHere tb h text i (m .past)) _ (stage-small (next tb h text i (m .past)) (ahead tb h text i (m .past))) e in
                 omega (arith, k, is-d, q)
 
             at-fault : (x : Outcome) → outcomeHere tb h text i (m .past) ≡ x
-                → (d ≡ actOf x (stageAt (next tb h text i (m .past)) (ahead tb h text i (m .past)))) × (verdictOf tb text ≡ judge true x i v)
+                → (d ≡ actOf (class (sortHere tb h text i (m .past))) x (stageAt (next tb h text i (m .past)) (ahead tb h text i (m .past)))) × (verdictOf tb text ≡ judge true x i v)
             at-fault x e = (
-              is-d ∙ ap (λ (y : Outcome). actOf y (stageAt (next tb h text i (m .past)) (ahead tb h text i (m .past)))) e,
+              is-d ∙ ap (λ (y : Outcome). actOf (class (sortHere tb h text i (m .past))) y (stageAt (next tb h text i (m .past)) (ahead tb h text i (m .past)))) e,
               judged v refl ∙ ap (λ (y : Outcome). judge true y i v) e,
             )
 

@@ -19,20 +19,20 @@ use Rattle.entries.specs.Entries.{thenOf, oddStates, bits}
 use Rattle.turns.specs.Acts as act
 use Rattle.turns.proofs.Places.{below, at-below}
 use Rattle.turns.specs.Deeds.{deeds}
-use Rattle.turns.specs.Stages.{stageAt, deedOf, settledBy, wayOf, actOf}
+use Rattle.turns.specs.Stages.{stageAt, deedOf, settledBy, wayOf, silentAs, actOf}
 
 turn-right : Past → Class → Future → Bool
-turn-right p c f = eqb (settledBy (deedOf (stageAt p (look c f)) (classNumber c)) f) (actOf (rule p c f) (stageAt (after p c) f))
+turn-right p c f = eqb (settledBy (deedOf (stageAt p (look c f)) (classNumber c)) f) (actOf c (rule p c f) (stageAt (after p c) f))
 
 turns-right : T (every3 pasts classes futures turn-right)
-unfolding turn-right stageAt settledBy deedOf deeds actOf wayOf rule look after
+unfolding turn-right stageAt settledBy deedOf deeds actOf silentAs wayOf rule look after
 turns-right = tt
 
 pub turn-is : (p : Past) (c : Class) (f : Future)
-    → settledBy (deedOf (stageAt p (look c f)) (classNumber c)) f ≡ actOf (rule p c f) (stageAt (after p c) f)
+    → settledBy (deedOf (stageAt p (look c f)) (classNumber c)) f ≡ actOf c (rule p c f) (stageAt (after p c) f)
 unfolding turn-right
 turn-is p c f =
-    eqb→eq (settledBy (deedOf (stageAt p (look c f)) (classNumber c)) f) (actOf (rule p c f) (stageAt (after p c) f))
+    eqb→eq (settledBy (deedOf (stageAt p (look c f)) (classNumber c)) f) (actOf c (rule p c f) (stageAt (after p c) f))
     (at3 pasts classes futures turn-right turns-right p c f)
 
 -- QUESTIONS, decided by what is found (b) of what follows
@@ -101,11 +101,11 @@ pub stage-small : (p : Past) (f : Future) → stageAt p f < state.states
 stage-small p f = ltb→lt (stageAt p f) state.states (at2 pasts futures (λ p f. ltb (stageAt p f) state.states) stages-small p f)
 
 -- the way of an outcome that is no fault
-unfoldable pub wayNumber : Outcome → ℕ
-unfolding wayOf
-wayNumber (fault c) = act.silentWay
-wayNumber silent = act.silentWay
-wayNumber (sign w) = wayOf w
+unfoldable pub wayNumber : Class → Outcome → ℕ
+unfolding wayOf silentAs
+wayNumber c (fault x) = act.silentWay
+wayNumber c silent = silentAs c
+wayNumber c (sign w) = wayOf w
 
 ways-right : ℕ → ℕ → List Bool
 ways-right s w = ltb (s * act.ways + w) act.questions ∷ eqb ((s * act.ways + w) / act.ways) s ∷ eqb ((s * act.ways + w) % act.ways) w ∷ []
@@ -117,6 +117,10 @@ all-ways-right = tt
 way-small : (w : Way) → wayOf w < act.ways
 unfolding wayOf
 way-small w = ltb→lt (wayOf w) act.ways (ways .at (λ w. ltb (wayOf w) act.ways) tt w)
+
+silent-small : (c : Class) → silentAs c < act.ways
+unfolding silentAs
+silent-small c = ltb→lt (silentAs c) act.ways (classes .at (λ c. ltb (silentAs c) act.ways) tt c)
 
 -- a deed of a state and a way gives them back
 pub parted : (s w : ℕ) → s < state.states → w < act.ways
@@ -139,22 +143,22 @@ faultless (fault c) = false
 faultless silent = true
 faultless (sign w) = true
 
-pub done-is : (x : Outcome) (s : ℕ) → s < state.states → actOf x s < act.questions
-    → (faultless x ≡ true) × (actOf x s / act.ways ≡ s) × (actOf x s % act.ways ≡ wayNumber x)
+pub done-is : (c : Class) (x : Outcome) (s : ℕ) → s < state.states → actOf c x s < act.questions
+    → (faultless x ≡ true) × (actOf c x s / act.ways ≡ s) × (actOf c x s % act.ways ≡ wayNumber c x)
 unfolding actOf wayNumber
-done-is (fault lacksSign) s l h = absurd (omega (arith, h))
-done-is (fault breaksPair) s l h = absurd (omega (arith, h))
-done-is (fault outsideForm) s l h = absurd (omega (arith, h))
-done-is (fault sharesCells) s l h = absurd (omega (arith, h))
-done-is silent s l h = (refl, parted s act.silentWay l (omega arith) .1, parted s act.silentWay l (omega arith) .2)
-done-is (sign w) s l h = (refl, parted s (wayOf w) l (way-small w) .1, parted s (wayOf w) l (way-small w) .2)
+done-is c (fault lacksSign) s l h = absurd (omega (arith, h))
+done-is c (fault breaksPair) s l h = absurd (omega (arith, h))
+done-is c (fault outsideForm) s l h = absurd (omega (arith, h))
+done-is c (fault sharesCells) s l h = absurd (omega (arith, h))
+done-is c silent s l h = (refl, parted s (silentAs c) l (silent-small c) .1, parted s (silentAs c) l (silent-small c) .2)
+done-is c (sign w) s l h = (refl, parted s (wayOf w) l (way-small w) .1, parted s (wayOf w) l (way-small w) .2)
 
 -- no outcome that is no fault is a question or more
-pub done-low : (x : Outcome) (s : ℕ) → s < state.states → faultless x ≡ true → actOf x s < act.questions
+pub done-low : (c : Class) (x : Outcome) (s : ℕ) → s < state.states → faultless x ≡ true → actOf c x s < act.questions
 unfolding actOf
-done-low (fault c) s l e = absurd (true≢false (sym e))
-done-low silent s l e = parted s act.silentWay l (omega arith) .0
-done-low (sign w) s l e = parted s (wayOf w) l (way-small w) .0
+done-low c (fault x) s l e = absurd (true≢false (sym e))
+done-low c silent s l e = parted s (silentAs c) l (silent-small c) .0
+done-low c (sign w) s l e = parted s (wayOf w) l (way-small w) .0
 
 -- a class leads to one of the states
 pub then-small : (c : Class) → thenOf c < state.states

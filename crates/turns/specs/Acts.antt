@@ -3,7 +3,8 @@
 use Prim.Native.Nat.{ℕ, _+_, _*_}
 use Rattle.entries.specs.States.{free, capitals, mixed, number, lowered, ordinal, barred, under, guarded, hyphened, dashed}
 
--- THE WAYS: its own cells; after 46; after 46-46; after 5; after 3456; the lower digit after 3456; the lower digit; no cell
+-- THE WAYS: its own cells; after 46; after 46-46; after 5; after 3456; the lower digit after 3456; the lower digit; no cell,
+-- though it has one
 abbrev pub bareWay : ℕ
 bareWay = 0
 
@@ -76,7 +77,7 @@ abbrev pub feminineMark : ℕ
 feminineMark = guarded * ways + bareWay
 
 abbrev pub barOfFraction : ℕ
-barOfFraction = barred * ways + silentWay
+barOfFraction = barred * ways + bareWay
 
 abbrev pub digitUnder : ℕ
 digitUnder = under * ways + bareWay

@@ -81,11 +81,16 @@ wayOf denominator = act.bareWay
 wayOf ordinalMark = act.bareWay
 wayOf inside = act.bareWay
 
--- the deed of an outcome of the rules, before a place of this state. (No place has `breaksPair` for its outcome.)
-unfoldable pub actOf : Outcome → ℕ → ℕ
-actOf (fault lacksSign) s = act.noSign
-actOf (fault breaksPair) s = act.noSign
-actOf (fault outsideForm) s = act.outsideForm
-actOf (fault sharesCells) s = act.sharesCells
-actOf silent s = s * act.ways + act.silentWay
-actOf (sign w) s = s * act.ways + wayOf w
+-- the way of writing no cell: U+2044 has none of its own, the full stop of an ordinal has one
+unfoldable pub silentAs : Class → ℕ
+silentAs c = cond (c is aBar) act.bareWay act.silentWay
+
+-- the deed of a class and an outcome of the rules, before a place of this state. (No place has `breaksPair` for its outcome.)
+unfoldable pub actOf : Class → Outcome → ℕ → ℕ
+unfolding silentAs
+actOf c (fault lacksSign) s = act.noSign
+actOf c (fault breaksPair) s = act.noSign
+actOf c (fault outsideForm) s = act.outsideForm
+actOf c (fault sharesCells) s = act.sharesCells
+actOf c silent s = s * act.ways + silentAs c
+actOf c (sign w) s = s * act.ways + wayOf w

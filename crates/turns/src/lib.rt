@@ -25,7 +25,8 @@ ghost use Rattle.turns.specs.Acts.{questions};
 
 mod table;
 
-// The ways of writing: its own cells; after 46; after 46-46; after 5; after 3456; the lower digit after 3456; the lower digit; no cell.
+// The ways of writing: its own cells; after 46; after 46-46; after 5; after 3456; the lower digit after 3456; the lower digit; no cell, though
+// it has one.
 pub const BARE: usize = 0;
 
 pub const ONE_CAPITAL: usize = 1;
@@ -73,7 +74,7 @@ const STOP_OF_ORDINAL: usize = ORDINAL * WAYS + SILENT;
 
 const FEMININE_MARK: usize = GUARDED * WAYS + BARE;
 
-const BAR_OF_FRACTION: usize = BARRED * WAYS + SILENT;
+const BAR_OF_FRACTION: usize = BARRED * WAYS + BARE;
 
 const DIGIT_UNDER: usize = UNDER * WAYS + BARE;
 

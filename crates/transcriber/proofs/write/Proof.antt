@@ -17,7 +17,7 @@ use Rattle.entries.specs.Entries.{entryOf, classIn, thenIn, usualIn}
 use Rattle.turns.specs.Acts as act
 use Rattle.turns.specs.Stages.{futureAt, stageAt, deedOf, settledBy, actOf}
 use Rattle.transcriber.specs.Passes.{ownBy, cellsBy}
-use Rattle.transcriber.proofs.Going.{held, sortHere, next, ahead, outcomeHere, state-after, cells-here, low-deed}
+use Rattle.transcriber.proofs.Going.{held, sortHere, next, ahead, outcomeHere, actHere, state-after, cells-here, low-deed}
 use Rattle.transcriber.proofs.Measuring.{act-is, usual-goes}
 use Rattle.transcriber.proofs.Writing.{Wid, wid-start, wid-fine, wid-room, wid-few, wid-on, wid-end}
 use Rattle.transcriber.proofs.write.Statement.{statement}
@@ -92,7 +92,7 @@ from-d c = c .before .before .before .before
 
 -- the deed is the rules' outcome, and no fault
 deed-told : (c : D) → let l = at-u (from-d c) in
-    c .settled .result ≡ actOf (outcomeHere castilian held (text l) (l .loop .place) (past l)) (stageAt (next castilian held (text l) (l .loop .place) (past l)) (ahead castilian held (text l) (l .loop .place) (past l)))
+    c .settled .result ≡ actHere castilian held (text l) (l .loop .place) (past l)
 deed-told c =
     let u = from-d c in
     let l = at-u u in
