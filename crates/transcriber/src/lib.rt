@@ -199,7 +199,12 @@ fn measure(text: &[u32]) -> Measured
             n = n + entries::count_in(entry);
             state = entries::then_in(entry);
         } else {
-            let deed = turns::settled(text, i + 1, turns::deed_of(state, entries::class_in(entry)));
+            let told = turns::deed_of(state, entries::class_in(entry));
+            let deed = if told < QUESTIONS {
+                told
+            } else {
+                turns::settled(text, i + 1, told)
+            };
             if QUESTIONS <= deed {
                 return Measured::Refused(fault_of(deed, i));
             }
@@ -228,11 +233,12 @@ fn write(text: &[u32], row: &mut [u8]) -> usize
             n = n + put_own(&mut row[n..], entry);
             state = entries::then_in(entry);
         } else {
-            let deed = turns::settled(
-                text,
-                place + 1,
-                turns::deed_of(state, entries::class_in(entry)),
-            );
+            let told = turns::deed_of(state, entries::class_in(entry));
+            let deed = if told < QUESTIONS {
+                told
+            } else {
+                turns::settled(text, place + 1, told)
+            };
             n = n + put_sign(&mut row[n..], deed % WAYS, entry);
             state = deed / WAYS;
         }

@@ -11,6 +11,7 @@ use Rattle.rules.specs.Castilian.{castilian}
 use Rattle.rules.proofs.States.{Past}
 use Rattle.entries.specs.Entries.{entryOf, classIn, countIn, thenIn, markIn, usualIn}
 use Rattle.turns.specs.Stages.{futureAt, deedOf, settledBy}
+use Rattle.turns.proofs.Machine.{settled-low}
 use Rattle.transcriber.specs.Passes.{cellsBy}
 use Rattle.transcriber.specs.declared.Measured.the-variants.{Refused}
 use Rattle.transcriber.proofs.Going.{held}
@@ -96,21 +97,24 @@ abbrev past : L → Past
 past l = l .loop .inv .past
 
 abbrev D : Type 0
-D = tie.After-settled Inv-loop μ-loop
+D = tie.Joined3 Inv-loop μ-loop
 
 abbrev from-d : D → U
 from-d c = c .before .before .before .before
 
--- the deed, in the rules' words
+-- the deed, in the rules' words: what follows is asked only where there is a question
 deed-told : (c : D) → let l = at-u (from-d c) in
-    c .settled .result ≡ settledBy (deedOf (l .loop .state) (classIn (entry l))) (futureAt castilian (text l) (l .loop .i + 1))
+    c .if3 .deed ≡ settledBy (deedOf (l .loop .state) (classIn (entry l))) (futureAt castilian (text l) (l .loop .i + 1))
 deed-told c =
     let u = from-d c in
     let l = at-u u in
-    c .settled .ensures
-    ∙ ap (λ (d : ℕ). settledBy d (futureAt castilian (text l) (l .loop .i + 1)))
-    (c .before .deed-of .ensures
-    ∙ ap (deedOf (l .loop .state)) (c .before .before .class-in .ensures ∙ ap classIn (u .before .before .before .entry-of .ensures)))
+    let f = futureAt castilian (text l) (l .loop .i + 1) in
+    let told : c .before .deed-of .result ≡ deedOf (l .loop .state) (classIn (entry l)) =
+    c .before .deed-of .ensures
+    ∙ ap (deedOf (l .loop .state)) (c .before .before .class-in .ensures ∙ ap classIn (u .before .before .before .entry-of .ensures))
+    in
+    ⊎-elim (λ j. j .1 ∙ sym (settled-low (c .before .deed-of .result) f (j .0 .taken))) (λ j. j .2 ∙ j .1 .ensures) (c .if3 .came)
+    ∙ ap (λ (d : ℕ). settledBy d f) told
 
 abbrev W : L → ℕ → ℕ → Type 0
 W l s n = (w : ℕ) × Went castilian held (text l) (past l) (l .loop .i) w s × (n ≡ l .loop .n + w) × (w ≤ 3)
@@ -130,13 +134,13 @@ went c =
       j .4 ∙ ap (λ (k : ℕ). l .loop .n + k) (j .1 .ensures ∙ ap countIn e),
       omega arith,
     ))
-    (λ j. let d : D = record { before = record { before = record { before = record { before = u; if2 = j .0 }; class-in = j .1 }; deed-of = j .2 }; settled = j .3 } in (
-      j .5 .result,
-      subst (Went castilian held (text l) (past l) (l .loop .i) (j .5 .result)) (sym (j .6))
-          (went-deed castilian held (text l) (past l) (l .loop .i) (l .loop .state) (l .loop .inv .at) (d .settled .result) (deed-told d) (j .4 .left) (j .5 .result)
-          (j .5 .ensures .0 ∙ ap (λ (w : ℕ). length (cellsBy (d .settled .result % 8) w)) e)),
-      j .7,
-      j .5 .ensures .1,
+    (λ j. let d : D = record { before = record { before = record { before = record { before = u; if2 = j .0 }; class-in = j .1 }; deed-of = j .2 }; if3 = j .3 } in (
+      j .6 .result,
+      subst (Went castilian held (text l) (past l) (l .loop .i) (j .6 .result)) (sym (j .7))
+          (went-deed castilian held (text l) (past l) (l .loop .i) (l .loop .state) (l .loop .inv .at) (d .if3 .deed) (deed-told d) (j .4 .left) (j .6 .result)
+          (j .6 .ensures .0 ∙ ap (λ (w : ℕ). length (cellsBy (d .if3 .deed % 8) w)) e)),
+      j .8,
+      j .6 .ensures .1,
     )) (c .if2 .came)
 
 loop-holds : tie.Need-loop-holds Inv-loop μ-loop
@@ -190,14 +194,14 @@ add-n c =
 then-in-requires : tie.Need-then-in-requires Inv-loop μ-loop
 then-in-requires c κs = search needs
 
-add-settled : tie.Need-add-settled Inv-loop μ-loop
-add-settled c = search needs
-
 class-in-requires : tie.Need-class-in-requires Inv-loop μ-loop
 class-in-requires c κs = search needs
 
 deed-of-requires : tie.Need-deed-of-requires Inv-loop μ-loop
 deed-of-requires c κs = search needs
+
+add-settled : tie.Need-add-settled Inv-loop μ-loop
+add-settled c = search needs
 
 settled-requires : tie.Need-settled-requires Inv-loop μ-loop
 settled-requires c κs = search needs
@@ -212,15 +216,15 @@ returns-2 c =
     let l = at-u u in
     ap Refused (c .fault-of .ensures)
     ∙ mid-fault castilian held (text l) (l .loop .opened) (l .loop .state) (l .loop .n) (l .loop .i) (l .loop .inv)
-    (u .before .before .before .before .before .loop-test .taken) (u .before .if1 .opened) (passed (u .before)) (d .settled .result)
-    (act-is castilian held (text l) (past l) (l .loop .i) (l .loop .state) (l .loop .inv .at) (d .settled .result) (deed-told d)) (c .before .if3 .taken)
+    (u .before .before .before .before .before .loop-test .taken) (u .before .if1 .opened) (passed (u .before)) (d .if3 .deed)
+    (act-is castilian held (text l) (past l) (l .loop .i) (l .loop .state) (l .loop .inv .at) (d .if3 .deed) (deed-told d)) (c .before .if4 .taken)
 
 width-of-requires : tie.Need-width-of-requires Inv-loop μ-loop
 width-of-requires c κs = search needs
 
 add-n-2 : tie.Need-add-n-2 Inv-loop μ-loop
 add-n-2 c =
-    let u = from-d (c .before .before) in
+    let u = from-d (c .before .before .before) in
     let l = at-u u in
     omega (arith, c .width-of .ensures .1, l .loop .inv .low, l .loop .inv .inside, l .before .before .pre)
 
@@ -242,12 +246,12 @@ loop-again c =
 returns-3 : tie.Need-returns-3 Inv-loop μ-loop
 returns-3 c =
     let l = c .before .before in
-    mid-done castilian held (text l) (l .loop .opened) (l .loop .state) (l .loop .n) (l .loop .i) (l .loop .inv) (c .before .loop-test .left) (c .if4 .taken)
+    mid-done castilian held (text l) (l .loop .opened) (l .loop .state) (l .loop .n) (l .loop .i) (l .loop .inv) (c .before .loop-test .left) (c .if5 .taken)
 
 returns-4 : tie.Need-returns-4 Inv-loop μ-loop
 returns-4 c =
     let l = c .before .before in
-    mid-open castilian held (text l) (l .loop .opened) (l .loop .state) (l .loop .n) (l .loop .i) (l .loop .inv) (c .before .loop-test .left) (c .if4 .left)
+    mid-open castilian held (text l) (l .loop .opened) (l .loop .state) (l .loop .n) (l .loop .i) (l .loop .inv) (c .before .loop-test .left) (c .if5 .left)
 
 pub measure-spec : {M : Type 1} → statement M
 measure-spec =
@@ -268,9 +272,9 @@ measure-spec =
     count-in-requires
     add-n
     then-in-requires
-    add-settled
     class-in-requires
     deed-of-requires
+    add-settled
     settled-requires
     fault-of-requires
     returns-2

@@ -16,6 +16,7 @@ use Rattle.rules.proofs.Sides.{outcome-cells}
 use Rattle.entries.specs.Entries.{entryOf, classIn, thenIn, usualIn}
 use Rattle.turns.specs.Acts as act
 use Rattle.turns.specs.Stages.{futureAt, stageAt, deedOf, settledBy, actOf}
+use Rattle.turns.proofs.Machine.{settled-low}
 use Rattle.transcriber.specs.Passes.{ownBy, cellsBy}
 use Rattle.transcriber.proofs.Going.{held, sortHere, next, ahead, outcomeHere, actHere, state-after, cells-here, low-deed}
 use Rattle.transcriber.proofs.Measuring.{act-is, usual-goes}
@@ -85,36 +86,37 @@ usual u e =
     (ap ownBy (entry-is u) ∙ g .1, g .2)
 
 abbrev D : Type 0
-D = tie.After-settled Inv-loop μ-loop
+D = tie.Joined2 Inv-loop μ-loop
 
 abbrev from-d : D → U
 from-d c = c .before .before .before .before
 
--- the deed is the rules' outcome, and no fault
+-- the deed, where what follows is asked and where it is not, is the rules' outcome, and no fault
 deed-told : (c : D) → let l = at-u (from-d c) in
-    c .settled .result ≡ actHere castilian held (text l) (l .loop .place) (past l)
+    c .if2 .deed ≡ actHere castilian held (text l) (l .loop .place) (past l)
 deed-told c =
     let u = from-d c in
     let l = at-u u in
-    act-is castilian held (text l) (past l) (l .loop .place) (l .loop .state) (l .loop .inv .at) (c .settled .result)
-    (c .settled .ensures
-    ∙ ap (λ (d : ℕ). settledBy d (futureAt castilian (text l) (l .loop .place + 1)))
+    let f = futureAt castilian (text l) (l .loop .place + 1) in
+    act-is castilian held (text l) (past l) (l .loop .place) (l .loop .state) (l .loop .inv .at) (c .if2 .deed)
+    (⊎-elim (λ j. j .1 ∙ sym (settled-low (c .before .deed-of .result) f (j .0 .taken))) (λ j. j .2 ∙ j .1 .ensures) (c .if2 .came)
+    ∙ ap (λ (d : ℕ). settledBy d f)
     (c .before .deed-of .ensures ∙ ap (deedOf (l .loop .state)) (c .before .before .class-in .ensures ∙ ap classIn (entry-is u))))
 
-low : (c : D) → c .settled .result < act.questions
+low : (c : D) → c .if2 .deed < act.questions
 low c =
     let u = from-d c in
     let l = at-u u in
-    low-deed castilian held (text l) (l .loop .place) (past l) (c .settled .result) (deed-told c)
+    low-deed castilian held (text l) (l .loop .place) (past l) (c .if2 .deed) (deed-told c)
     (wid-fine castilian held (text l) (row₀ l) (l .loop .row) (l .loop .state) (l .loop .n) (l .loop .place) (l .loop .inv) (start l .pre .1) (inside u))
 
 -- otherwise: the cells of its way are the sign's
-odd : (c : D) → cellsBy (c .settled .result % 8) (from-d c .before .entry-of .result) ≡ here (at-u (from-d c))
+odd : (c : D) → cellsBy (c .if2 .deed % 8) (from-d c .before .entry-of .result) ≡ here (at-u (from-d c))
 odd c =
     let u = from-d c in
     let l = at-u u in
-    ap (cellsBy (c .settled .result % 8)) (entry-is u)
-    ∙ cells-here castilian held (text l) (l .loop .place) (past l) (c .settled .result) (deed-told c) (low c)
+    ap (cellsBy (c .if2 .deed % 8)) (entry-is u)
+    ∙ cells-here castilian held (text l) (l .loop .place) (past l) (c .if2 .deed) (deed-told c) (low c)
 
 loop-holds : tie.Need-loop-holds Inv-loop μ-loop
 loop-holds c = wid-start castilian held (c .before .before .args .text .now) (c .before .before .args .row .now) (c .before .before .pre .0)
@@ -162,14 +164,14 @@ add-n c =
 then-in-requires : tie.Need-then-in-requires Inv-loop μ-loop
 then-in-requires c κs = search needs
 
-add-settled : tie.Need-add-settled Inv-loop μ-loop
-add-settled c = search needs
-
 class-in-requires : tie.Need-class-in-requires Inv-loop μ-loop
 class-in-requires c κs = search needs
 
 deed-of-requires : tie.Need-deed-of-requires Inv-loop μ-loop
 deed-of-requires c κs = search needs
+
+add-settled : tie.Need-add-settled Inv-loop μ-loop
+add-settled c = search needs
 
 settled-requires : tie.Need-settled-requires Inv-loop μ-loop
 settled-requires c κs = search needs
@@ -185,15 +187,15 @@ part-put-sign-end c = search needs
 
 put-sign-requires : tie.Need-put-sign-requires Inv-loop μ-loop
 put-sign-requires c κs =
-    let d = c .before in
+    let d = c .before .before in
     let u = from-d d in
     let l = at-u u in
-    wid-room castilian held (text l) (row₀ l) (l .loop .row) (l .loop .state) (l .loop .n) (l .loop .place) (l .loop .inv) (start l .pre .1) (inside u) (cellsBy (d .settled .result % 8) (u .before .entry-of .result)) (odd d)
+    wid-room castilian held (text l) (row₀ l) (l .loop .row) (l .loop .state) (l .loop .n) (l .loop .place) (l .loop .inv) (start l .pre .1) (inside u) (cellsBy (d .if2 .deed % 8) (u .before .entry-of .result)) (odd d)
 
 add-n-2 : tie.Need-add-n-2 Inv-loop μ-loop
 add-n-2 c =
     let p = c .before .before in
-    let d = p .before .before in
+    let d = p .before .before .before in
     let u = from-d d in
     let l = at-u u in
     omega (
@@ -201,7 +203,7 @@ add-n-2 c =
       p .put-sign .ensures .0,
       l .loop .inv .same,
       start l .good .1,
-      wid-few castilian held (text l) (row₀ l) (l .loop .row) (l .loop .state) (l .loop .n) (l .loop .place) (l .loop .inv) (start l .pre .1) (inside u) (cellsBy (d .settled .result % 8) (u .before .entry-of .result)) (odd d),
+      wid-few castilian held (text l) (row₀ l) (l .loop .row) (l .loop .state) (l .loop .n) (l .loop .place) (l .loop .inv) (start l .pre .1) (inside u) (cellsBy (d .if2 .deed % 8) (u .before .entry-of .result)) (odd d),
     )
 
 add-place : tie.Need-add-place Inv-loop μ-loop
@@ -220,11 +222,11 @@ loop-again c =
     (subst (λ (s : ℕ). Wid castilian t (row₀ l) (c .if1 .row) s (l .loop .n + j .2 .result) (l .loop .place + 1)) (sym (j .7 ∙ j .5 .ensures ∙ ap thenIn (entry-is u)))
     (wid-on castilian held (text l) (row₀ l) (l .loop .row) (l .loop .state) (l .loop .n) (l .loop .place) (l .loop .inv) (start l .pre .1) (inside u) (ownBy (u .before .entry-of .result)) (usual u (j .0 .taken) .0) (thenIn (entry l)) (j .2 .result) _ (c .if1 .row)
     (usual u (j .0 .taken) .1) (j .2 .ensures .0) (j .2 .ensures .1) (j .6))))
-    (λ j. let d : D = record { before = record { before = record { before = record { before = u; if1 = j .0 }; class-in = j .1 }; deed-of = j .2 }; settled = j .3 } in
-    subst (λ (n : ℕ). Wid castilian t (row₀ l) (c .if1 .row) (c .if1 .state) n (l .loop .place + 1)) (sym (j .10))
-    (subst (λ (s : ℕ). Wid castilian t (row₀ l) (c .if1 .row) s (l .loop .n + j .5 .result) (l .loop .place + 1)) (sym (j .9))
-    (wid-on castilian held (text l) (row₀ l) (l .loop .row) (l .loop .state) (l .loop .n) (l .loop .place) (l .loop .inv) (start l .pre .1) (inside u) (cellsBy (d .settled .result % 8) (u .before .entry-of .result)) (odd d) (d .settled .result / 8) (j .5 .result) _ (c .if1 .row)
-    (state-after castilian held t (l .loop .place) (past l) (d .settled .result) (deed-told d) (low d)) (j .5 .ensures .0) (j .5 .ensures .1) (j .8)))) (c .if1 .came)
+    (λ j. let d : D = record { before = record { before = record { before = record { before = u; if1 = j .0 }; class-in = j .1 }; deed-of = j .2 }; if2 = j .3 } in
+    subst (λ (n : ℕ). Wid castilian t (row₀ l) (c .if1 .row) (c .if1 .state) n (l .loop .place + 1)) (sym (j .11))
+    (subst (λ (s : ℕ). Wid castilian t (row₀ l) (c .if1 .row) s (l .loop .n + j .6 .result) (l .loop .place + 1)) (sym (j .10))
+    (wid-on castilian held (text l) (row₀ l) (l .loop .row) (l .loop .state) (l .loop .n) (l .loop .place) (l .loop .inv) (start l .pre .1) (inside u) (cellsBy (d .if2 .deed % 8) (u .before .entry-of .result)) (odd d) (d .if2 .deed / 8) (j .6 .result) _ (c .if1 .row)
+    (state-after castilian held t (l .loop .place) (past l) (d .if2 .deed) (deed-told d) (low d)) (j .6 .ensures .0) (j .6 .ensures .1) (j .9)))) (c .if1 .came)
 
 same-length : tie.Need-same-length Inv-loop μ-loop
 same-length c = search needs
@@ -251,9 +253,9 @@ write-spec =
     put-own-requires
     add-n
     then-in-requires
-    add-settled
     class-in-requires
     deed-of-requires
+    add-settled
     settled-requires
     sub-put-sign
     part-put-sign-start
