@@ -1,10 +1,11 @@
-# Prints the table of tools/deeds.txt, one line for each place of it, a row of 16 for each state, with tabs between:
+# Prints the table of tools/deeds.txt, one line for each place of it, 16 rows of 16, a row for each state, with tabs between:
 #
 #     PLACE STATE DEED CLASS
 #     48 NUMBER SEPARATED_LETTER a to j
 #
 # tools/print-deeds.sh, tools/print-deed-list.sh and tools/print-deeds-proof.sh print from these lines. A line that cannot be
-# read is refused, and so is a table in which a class has no deed in some state, or two.
+# read is refused, and so is a table in which a class has no deed in some state, or two. A place of no state or of no class
+# has NO_SIGN: with all 256 there, the compiled look-up has nothing to test.
 #
 # Run it from the top of the repository with LC_ALL=C: awk -f tools/deeds.awk tools/deeds.txt
 
@@ -71,10 +72,13 @@ END {
     close_class()
     if (!states || !classes) fail("there is no table")
     if (classes > 16) fail("a row has room for 16 classes")
+    if (states > 16) fail("there is room for 16 states")
     for (d in is_deed) if (!(d in used)) fail("no class has the deed " d)
-    for (s = 1; s <= states; s++)
+    for (s = 1; s <= 16; s++)
         for (c = 1; c <= 16; c++) {
-            its_deed = c <= classes ? deed[state[s], c] : "NO_SIGN"
-            printf "%d\t%s\t%s\t%s\n", place++, state[s], its_deed, c <= classes ? class[c] : "no class has this number"
+            named = s <= states && c <= classes
+            its_state = s <= states ? state[s] : "NO_STATE_" (s - 1)
+            its_class = c <= classes ? class[c] : "no class has this number"
+            printf "%d\t%s\t%s\t%s\n", place++, its_state, named ? deed[its_state, c] : "NO_SIGN", its_class
         }
 }

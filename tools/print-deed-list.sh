@@ -30,8 +30,8 @@ uses=$(printf '%s\n' "$named" | awk '{ print $2 }' | sort -u | awk '{ printf "%s
 
 cat <<TEXT
 -- Printed by tools/print-deed-list.sh from tools/deeds.txt: change that, and print it again.
--- What is done at a place, by its state and the class of its code point: a row of 16 for each state, the last of them for no class. That it is
--- what the rules say is shown by one computed test (proofs/Machine.antt). Assumes nothing.
+-- What is done at a place, by its state and the class of its code point: 16 rows of 16, a row for each state. Where there is no state or
+-- no class of a number, there is no sign. That it is what the rules say is shown by one computed test (proofs/Machine.antt). Assumes nothing.
 use Prim.Native.Nat.{ℕ}
 use mathlib.Core.List.{List, [], _∷_}
 use Rattle.turns.specs.Acts.{$uses}

@@ -17,7 +17,8 @@ last=$(printf '%s\n' "$places" | awk 'END { print NR - 1 }')
 
 cat <<'TEXT'
 // Printed by tools/print-deeds.sh from tools/deeds.txt: change that, and print it again. The check compares it with the rules.
-// What is done at a place, by its state and the class of its code point: a row of 16 for each state.
+// What is done at a place, by its state and the class of its code point: 16 rows of 16, a row for each state. Where
+// there is no state or no class of a number, there is no sign.
 TEXT
 
 printf '%s\n' "$places" | awk -F '\t' '{ print "use crate::" $3 ";" }' | sort -u

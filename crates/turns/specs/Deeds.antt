@@ -1,6 +1,6 @@
 -- Printed by tools/print-deed-list.sh from tools/deeds.txt: change that, and print it again.
--- What is done at a place, by its state and the class of its code point: a row of 16 for each state, the last of them for no class. That it is
--- what the rules say is shown by one computed test (proofs/Machine.antt). Assumes nothing.
+-- What is done at a place, by its state and the class of its code point: 16 rows of 16, a row for each state. Where there is no state or
+-- no class of a number, there is no sign. That it is what the rules say is shown by one computed test (proofs/Machine.antt). Assumes nothing.
 use Prim.Native.Nat.{ℕ}
 use mathlib.Core.List.{List, [], _∷_}
 use Rattle.turns.specs.Acts.{barOfFraction, beginsNumber, beginsRun, capitalAlone, capitalOfMany, digit, digitUnder, feminineMark, letter, lowerDigit, noSign, numberPoint, oneUnder, outsideForm, separatedLetter, sharesCells, sign, stopOfOrdinal, theDash, theHyphen}
@@ -29,8 +29,18 @@ deeds =
     ∷ letter ∷ letter ∷ beginsRun ∷ beginsNumber ∷ beginsNumber ∷ sign ∷ sign ∷ sharesCells ∷ sharesCells ∷ outsideForm ∷ outsideForm ∷ outsideForm ∷ sign ∷ sign ∷ noSign ∷ noSign
     -- dashed
     ∷ letter ∷ letter ∷ beginsRun ∷ beginsNumber ∷ beginsNumber ∷ sign ∷ sign ∷ sharesCells ∷ theDash ∷ outsideForm ∷ outsideForm ∷ outsideForm ∷ sign ∷ sign ∷ noSign ∷ noSign
+    -- noState11
+    ∷ noSign ∷ noSign ∷ noSign ∷ noSign ∷ noSign ∷ noSign ∷ noSign ∷ noSign ∷ noSign ∷ noSign ∷ noSign ∷ noSign ∷ noSign ∷ noSign ∷ noSign ∷ noSign
+    -- noState12
+    ∷ noSign ∷ noSign ∷ noSign ∷ noSign ∷ noSign ∷ noSign ∷ noSign ∷ noSign ∷ noSign ∷ noSign ∷ noSign ∷ noSign ∷ noSign ∷ noSign ∷ noSign ∷ noSign
+    -- noState13
+    ∷ noSign ∷ noSign ∷ noSign ∷ noSign ∷ noSign ∷ noSign ∷ noSign ∷ noSign ∷ noSign ∷ noSign ∷ noSign ∷ noSign ∷ noSign ∷ noSign ∷ noSign ∷ noSign
+    -- noState14
+    ∷ noSign ∷ noSign ∷ noSign ∷ noSign ∷ noSign ∷ noSign ∷ noSign ∷ noSign ∷ noSign ∷ noSign ∷ noSign ∷ noSign ∷ noSign ∷ noSign ∷ noSign ∷ noSign
+    -- noState15
+    ∷ noSign ∷ noSign ∷ noSign ∷ noSign ∷ noSign ∷ noSign ∷ noSign ∷ noSign ∷ noSign ∷ noSign ∷ noSign ∷ noSign ∷ noSign ∷ noSign ∷ noSign ∷ noSign
     ∷ []
 
 -- how many there are
 abbrev pub deedCount : ℕ
-deedCount = 176
+deedCount = 256

@@ -100,12 +100,10 @@ pub const OUTSIDE_FORM: usize = 93;
 
 pub const SHARES_CELLS: usize = 94;
 
-// A row of the table for each state; how many states there is room for; how many entries there are.
+// The table has a row for each state: how many classes and how many states there is room for.
 const CLASS_PLACES: usize = 16;
 
 const STATE_PLACES: usize = 16;
-
-const DEEDS: usize = 176;
 
 // The code points that reading ahead knows.
 const DIGIT_0: u32 = 0x30; // 0
@@ -245,15 +243,11 @@ fn form_follows(text: &[u32], from: usize) -> bool
 }
 
 // What the table says of a state and a class: a deed that is settled, or a question. (States and classes are below 16, so that the remainders are
-// they; what the table does not have is no sign.)
+// they.)
 pub fn deed_of(state: usize, class: usize) -> usize
     ensures { λ r. ⌜ r ≡ deedOf state class ⌝ }
 {
-    let place = state % STATE_PLACES * CLASS_PLACES + class % CLASS_PLACES;
-    if DEEDS <= place {
-        return NO_SIGN;
-    }
-    table::deed_at(place)
+    table::deed_at(state % STATE_PLACES * CLASS_PLACES + class % CLASS_PLACES)
 }
 
 // The deed, once what follows has decided: `next` is the place after the one at hand.

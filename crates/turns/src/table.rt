@@ -1,5 +1,6 @@
 // Printed by tools/print-deeds.sh from tools/deeds.txt: change that, and print it again. The check compares it with the rules.
-// What is done at a place, by its state and the class of its code point: a row of 16 for each state.
+// What is done at a place, by its state and the class of its code point: 16 rows of 16, a row for each state. Where
+// there is no state or no class of a number, there is no sign.
 use crate::BAR_OF_FRACTION;
 use crate::BEGINS_NUMBER;
 use crate::BEGINS_RUN;
@@ -218,6 +219,91 @@ pub fn deed_at(place: usize) -> usize
         172 => SIGN, // %
         173 => SIGN, // another sign
         174 => NO_SIGN, // no sign
+        175 => NO_SIGN, // no class has this number
+        // NO_STATE_11
+        176 => NO_SIGN, // a to j
+        177 => NO_SIGN, // another small letter
+        178 => NO_SIGN, // a capital
+        179 => NO_SIGN, // 1
+        180 => NO_SIGN, // another digit
+        181 => NO_SIGN, // full stop
+        182 => NO_SIGN, // comma
+        183 => NO_SIGN, // hyphen
+        184 => NO_SIGN, // U+2014
+        185 => NO_SIGN, // U+2044
+        186 => NO_SIGN, // º
+        187 => NO_SIGN, // ª
+        188 => NO_SIGN, // %
+        189 => NO_SIGN, // another sign
+        190 => NO_SIGN, // no sign
+        191 => NO_SIGN, // no class has this number
+        // NO_STATE_12
+        192 => NO_SIGN, // a to j
+        193 => NO_SIGN, // another small letter
+        194 => NO_SIGN, // a capital
+        195 => NO_SIGN, // 1
+        196 => NO_SIGN, // another digit
+        197 => NO_SIGN, // full stop
+        198 => NO_SIGN, // comma
+        199 => NO_SIGN, // hyphen
+        200 => NO_SIGN, // U+2014
+        201 => NO_SIGN, // U+2044
+        202 => NO_SIGN, // º
+        203 => NO_SIGN, // ª
+        204 => NO_SIGN, // %
+        205 => NO_SIGN, // another sign
+        206 => NO_SIGN, // no sign
+        207 => NO_SIGN, // no class has this number
+        // NO_STATE_13
+        208 => NO_SIGN, // a to j
+        209 => NO_SIGN, // another small letter
+        210 => NO_SIGN, // a capital
+        211 => NO_SIGN, // 1
+        212 => NO_SIGN, // another digit
+        213 => NO_SIGN, // full stop
+        214 => NO_SIGN, // comma
+        215 => NO_SIGN, // hyphen
+        216 => NO_SIGN, // U+2014
+        217 => NO_SIGN, // U+2044
+        218 => NO_SIGN, // º
+        219 => NO_SIGN, // ª
+        220 => NO_SIGN, // %
+        221 => NO_SIGN, // another sign
+        222 => NO_SIGN, // no sign
+        223 => NO_SIGN, // no class has this number
+        // NO_STATE_14
+        224 => NO_SIGN, // a to j
+        225 => NO_SIGN, // another small letter
+        226 => NO_SIGN, // a capital
+        227 => NO_SIGN, // 1
+        228 => NO_SIGN, // another digit
+        229 => NO_SIGN, // full stop
+        230 => NO_SIGN, // comma
+        231 => NO_SIGN, // hyphen
+        232 => NO_SIGN, // U+2014
+        233 => NO_SIGN, // U+2044
+        234 => NO_SIGN, // º
+        235 => NO_SIGN, // ª
+        236 => NO_SIGN, // %
+        237 => NO_SIGN, // another sign
+        238 => NO_SIGN, // no sign
+        239 => NO_SIGN, // no class has this number
+        // NO_STATE_15
+        240 => NO_SIGN, // a to j
+        241 => NO_SIGN, // another small letter
+        242 => NO_SIGN, // a capital
+        243 => NO_SIGN, // 1
+        244 => NO_SIGN, // another digit
+        245 => NO_SIGN, // full stop
+        246 => NO_SIGN, // comma
+        247 => NO_SIGN, // hyphen
+        248 => NO_SIGN, // U+2014
+        249 => NO_SIGN, // U+2044
+        250 => NO_SIGN, // º
+        251 => NO_SIGN, // ª
+        252 => NO_SIGN, // %
+        253 => NO_SIGN, // another sign
+        254 => NO_SIGN, // no sign
         _ => NO_SIGN, // no class has this number
     }
 }
