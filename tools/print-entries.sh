@@ -40,7 +40,6 @@ use crate::MARK;
 use crate::MASCULINE;
 use crate::MIXED;
 use crate::NUMBER;
-use crate::ODD;
 use crate::ONE;
 use crate::ORDINAL;
 use crate::OTHER_DIGIT;
@@ -52,6 +51,7 @@ use crate::THEN;
 use crate::THIRD;
 use crate::UNDER;
 use crate::UNLISTED;
+use crate::USUAL;
 ghost use mathlib.Core.Path.{_≡_};
 ghost use Prim.Native.Nat.{_<_, _≤_};
 ghost use Rattle.rules.specs.Castilian.{castilian};
@@ -75,62 +75,65 @@ printf '%s\n' "$signs" | awk -F '\t' '
 
 cat <<'TEXT'
 // The bit of a state, and those of all.
-const IN_NUMBER: u64 = ODD << NUMBER;
+const IN_NUMBER: u64 = USUAL << NUMBER;
 
-const IN_LOWERED: u64 = ODD << LOWERED;
+const IN_LOWERED: u64 = USUAL << LOWERED;
 
-const IN_UNDER: u64 = ODD << UNDER;
+const IN_UNDER: u64 = USUAL << UNDER;
 
-const IN_GUARDED: u64 = ODD << GUARDED;
+const IN_GUARDED: u64 = USUAL << GUARDED;
 
-const IN_HYPHENED: u64 = ODD << HYPHENED;
+const IN_HYPHENED: u64 = USUAL << HYPHENED;
 
-const IN_DASHED: u64 = ODD << DASHED;
+const IN_DASHED: u64 = USUAL << DASHED;
 
-const IN_CAPITALS: u64 = ODD << CAPITALS;
+const IN_CAPITALS: u64 = USUAL << CAPITALS;
 
-const IN_ANY: u64 = (ODD << FREE)
+const IN_ANY: u64 = (USUAL << FREE)
     + IN_CAPITALS
-    + (ODD << MIXED)
+    + (USUAL << MIXED)
     + IN_NUMBER
     + IN_LOWERED
-    + (ODD << ORDINAL)
-    + (ODD << BARRED)
+    + (USUAL << ORDINAL)
+    + (USUAL << BARRED)
     + IN_UNDER
     + IN_GUARDED
     + IN_HYPHENED
     + IN_DASHED;
 
-// What a class is: its number, the state after it where it is written as usual, and the states in which it is not.
-const AS_A_TO_J: u64 = A_TO_J as u64 + THEN * MIXED as u64 + IN_NUMBER + IN_UNDER + IN_GUARDED;
+// What a class is: its number, the state after it where it is written as usual, and the states in which it is.
+const AS_A_TO_J: u64 = A_TO_J as u64 + THEN * MIXED as u64 + IN_ANY
+    - IN_NUMBER
+    - IN_UNDER
+    - IN_GUARDED;
 
-const AS_OTHER_SMALL: u64 = OTHER_SMALL as u64 + THEN * MIXED as u64;
+const AS_OTHER_SMALL: u64 = OTHER_SMALL as u64 + THEN * MIXED as u64 + IN_ANY;
 
-const AS_CAPITAL: u64 = CAPITAL as u64 + THEN * CAPITALS as u64 + IN_ANY - IN_CAPITALS;
+const AS_CAPITAL: u64 = CAPITAL as u64 + THEN * CAPITALS as u64 + IN_CAPITALS;
 
-const AS_ONE: u64 = ONE as u64 + THEN * NUMBER as u64 + IN_ANY - IN_NUMBER;
+const AS_ONE: u64 = ONE as u64 + THEN * NUMBER as u64 + IN_NUMBER;
 
-const AS_OTHER_DIGIT: u64 = OTHER_DIGIT as u64 + THEN * NUMBER as u64 + IN_ANY - IN_NUMBER;
+const AS_OTHER_DIGIT: u64 = OTHER_DIGIT as u64 + THEN * NUMBER as u64 + IN_NUMBER;
 
-const AS_FULL_STOP: u64 = FULL_STOP as u64 + THEN * FREE as u64 + IN_NUMBER + IN_LOWERED;
+const AS_FULL_STOP: u64 = FULL_STOP as u64 + THEN * FREE as u64 + IN_ANY - IN_NUMBER - IN_LOWERED;
 
-const AS_COMMA: u64 = COMMA as u64 + THEN * FREE as u64 + IN_NUMBER;
+const AS_COMMA: u64 = COMMA as u64 + THEN * FREE as u64 + IN_ANY - IN_NUMBER;
 
-const AS_HYPHEN: u64 = HYPHEN as u64 + THEN * HYPHENED as u64 + IN_HYPHENED + IN_DASHED;
+const AS_HYPHEN: u64 = HYPHEN as u64 + THEN * HYPHENED as u64 + IN_ANY - IN_HYPHENED - IN_DASHED;
 
-const AS_DASH: u64 = DASH as u64 + THEN * DASHED as u64 + IN_HYPHENED;
+const AS_DASH: u64 = DASH as u64 + THEN * DASHED as u64 + IN_ANY - IN_HYPHENED;
 
-const AS_BAR: u64 = BAR as u64 + THEN * BARRED as u64 + IN_ANY - IN_LOWERED;
+const AS_BAR: u64 = BAR as u64 + THEN * BARRED as u64 + IN_LOWERED;
 
-const AS_MASCULINE: u64 = MASCULINE as u64 + THEN * FREE as u64 + IN_ANY;
+const AS_MASCULINE: u64 = MASCULINE as u64 + THEN * FREE as u64;
 
-const AS_FEMININE: u64 = FEMININE as u64 + THEN * GUARDED as u64 + IN_ANY;
+const AS_FEMININE: u64 = FEMININE as u64 + THEN * GUARDED as u64;
 
-const AS_PERCENT: u64 = PERCENT as u64 + THEN * FREE as u64;
+const AS_PERCENT: u64 = PERCENT as u64 + THEN * FREE as u64 + IN_ANY;
 
-const AS_OTHER_SIGN: u64 = OTHER_SIGN as u64 + THEN * FREE as u64;
+const AS_OTHER_SIGN: u64 = OTHER_SIGN as u64 + THEN * FREE as u64 + IN_ANY;
 
-const AS_UNLISTED: u64 = UNLISTED as u64 + THEN * FREE as u64 + IN_ANY;
+const AS_UNLISTED: u64 = UNLISTED as u64 + THEN * FREE as u64;
 
 // A pair mark of kind 0; of kind k, MARK * 2 * k more.
 const OPENER: u64 = MARK;

@@ -11,7 +11,7 @@ use Rattle.rules.specs.Pairs.{markOf}
 use Rattle.rules.specs.Rows.{sortIn}
 use Rattle.rules.specs.Castilian.{castilian}
 use Rattle.rules.proofs.Finite.{holds, Hold, hold}
-use Rattle.entries.specs.Entries.{classIn, markIn, thenIn, oddIn, thenOf, oddStates, bits, marks, markNumber, word, entryOf}
+use Rattle.entries.specs.Entries.{classIn, markIn, thenIn, usualsIn, thenOf, usualStates, bits, marks, markNumber, word, entryOf}
 use Rattle.entries.proofs.Keys.{at-every}
 
 facts : Sort → List Bool
@@ -20,7 +20,7 @@ facts s =
     ∷ eqb (markIn (word s)) (markNumber (markOf s))
     ∷ ltb (markIn (word s)) marks
     ∷ eqb (thenIn (word s)) (thenOf (class s))
-    ∷ eqb (oddIn (word s)) (bits (oddStates (class s)))
+    ∷ eqb (usualsIn (word s)) (bits (usualStates (class s)))
     ∷ []
 
 -- a table whose words have their fields
@@ -29,10 +29,10 @@ pub record Worded (tb : Table) : Type 0 where
   pub mark-is : (c : ℕ) → markIn (entryOf tb c) ≡ markNumber (markOf (sortIn tb c))
   pub mark-small : (c : ℕ) → markIn (entryOf tb c) < marks
   pub then-is : (c : ℕ) → thenIn (entryOf tb c) ≡ thenOf (class (sortIn tb c))
-  pub odd-is : (c : ℕ) → oddIn (entryOf tb c) ≡ bits (oddStates (class (sortIn tb c)))
+  pub usuals-are : (c : ℕ) → usualsIn (entryOf tb c) ≡ bits (usualStates (class (sortIn tb c)))
 
 tested : (c : ℕ) → T (holds (facts (sortIn castilian c)))
-unfolding facts word thenOf oddStates bits markNumber castilian class isDigitCell ownCells lowerCells markOf dots
+unfolding facts word thenOf usualStates bits markNumber castilian class isDigitCell ownCells lowerCells markOf dots
 tested c = at-every (λ s. holds (facts s)) castilian tt tt c
 
 at : (c : ℕ) → Hold (facts (sortIn castilian c))
@@ -46,5 +46,5 @@ worded =
       mark-is = λ c. eqb→eq (markIn (entryOf castilian c)) (markNumber (markOf (sortIn castilian c))) (at c .1 .0);
       mark-small = λ c. ltb→lt (markIn (entryOf castilian c)) marks (at c .1 .1 .0);
       then-is = λ c. eqb→eq (thenIn (entryOf castilian c)) (thenOf (class (sortIn castilian c))) (at c .1 .1 .1 .0);
-      odd-is = λ c. eqb→eq (oddIn (entryOf castilian c)) (bits (oddStates (class (sortIn castilian c)))) (at c .1 .1 .1 .1 .0);
+      usuals-are = λ c. eqb→eq (usualsIn (entryOf castilian c)) (bits (usualStates (class (sortIn castilian c)))) (at c .1 .1 .1 .1 .0);
     }

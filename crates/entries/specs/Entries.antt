@@ -13,7 +13,7 @@ use Rattle.rules.specs.Rows.{sortIn}
 use Rattle.entries.specs.States.{free, capitals, mixed, number, lowered, ordinal, barred, under, guarded, hyphened, dashed}
 
 -- THE FIELDS, from the lowest: the class; how many cells; three cells; the cell of the lower digit; the pair mark; the state after it; the
--- states in which it is not written as usual, a bit for each
+-- states in which it is written as usual, a bit for each
 abbrev pub classPlaces : ℕ
 classPlaces = 16
 
@@ -38,8 +38,8 @@ markAt = 1073741824
 abbrev pub thenAt : ℕ
 thenAt = 17179869184
 
-abbrev pub oddAt : ℕ
-oddAt = 274877906944
+abbrev pub usualAt : ℕ
+usualAt = 274877906944
 
 abbrev pub classIn : ℕ → ℕ
 classIn e = e % classPlaces
@@ -65,12 +65,12 @@ markIn e = e / markAt % 16
 abbrev pub thenIn : ℕ → ℕ
 thenIn e = e / thenAt % 16
 
-abbrev pub oddIn : ℕ → ℕ
-oddIn e = e / oddAt
+abbrev pub usualsIn : ℕ → ℕ
+usualsIn e = e / usualAt
 
 -- is it written as usual in this state: with its own cells alone, and then the state is `thenIn`. (There is room for 64 states.)
 abbrev pub usualIn : ℕ → ℕ → Bool
-usualIn e s = eqb (oddIn e / 2 ^ (s % 64) % 2) 0
+usualIn e s = eqb (usualsIn e / 2 ^ (s % 64) % 2) 1
 
 -- AS USUAL. The state after a code point that is written with its own cells alone, as most are in most states. (U+2044 has no cell of its own,
 -- and none is written for it.)
@@ -91,7 +91,7 @@ thenOf aPercent = free
 thenOf otherSign = free
 thenOf unlisted = free
 
--- the states in which it is not
+-- the states in which it is
 abbrev every : List ℕ
 every = free ∷ capitals ∷ mixed ∷ number ∷ lowered ∷ ordinal ∷ barred ∷ under ∷ guarded ∷ hyphened ∷ dashed ∷ []
 
@@ -99,22 +99,22 @@ abbrev but : ℕ → List ℕ → List ℕ
 but n [] = []
 but n (m ∷ ms) = cond (eqb n m) (but n ms) (m ∷ but n ms)
 
-unfoldable pub oddStates : Class → List ℕ
-oddStates aToJ = number ∷ under ∷ guarded ∷ []
-oddStates otherSmall = []
-oddStates capital = but capitals every
-oddStates one = but number every
-oddStates otherDigit = but number every
-oddStates aStop = number ∷ lowered ∷ []
-oddStates aComma = number ∷ []
-oddStates aHyphen = hyphened ∷ dashed ∷ []
-oddStates aDash = hyphened ∷ []
-oddStates aBar = but lowered every
-oddStates masculine = every
-oddStates feminine = every
-oddStates aPercent = []
-oddStates otherSign = []
-oddStates unlisted = every
+unfoldable pub usualStates : Class → List ℕ
+usualStates aToJ = but number (but under (but guarded every))
+usualStates otherSmall = every
+usualStates capital = capitals ∷ []
+usualStates one = number ∷ []
+usualStates otherDigit = number ∷ []
+usualStates aStop = but number (but lowered every)
+usualStates aComma = but number every
+usualStates aHyphen = but hyphened (but dashed every)
+usualStates aDash = but hyphened every
+usualStates aBar = lowered ∷ []
+usualStates masculine = []
+usualStates feminine = []
+usualStates aPercent = every
+usualStates otherSign = every
+usualStates unlisted = []
 
 -- a bit for each state
 unfoldable pub bits : List ℕ → ℕ
@@ -130,11 +130,11 @@ markNumber none = 0
 markNumber (some m) = 2 * (m .0) + cond (m .1) 1 2
 
 unfoldable pub word : Sort → ℕ
-unfolding thenOf oddStates bits markNumber
+unfolding thenOf usualStates bits markNumber
 word s =
     classNumber (class s) + countAt * length (ownCells s) + firstAt * getD (ownCells s) 0 0 + secondAt * getD (ownCells s) 1 0
     + thirdAt * getD (ownCells s) 2 0 + lowerAt * getD (lowerCells s) 0 0 + markAt * markNumber (markOf s) + thenAt * thenOf (class s)
-    + oddAt * bits (oddStates (class s))
+    + usualAt * bits (usualStates (class s))
 
 -- the word of a code point in a profile's table
 unfoldable pub entryOf : Table → ℕ → ℕ

@@ -86,7 +86,7 @@ const THEN: u64 = 17179869184;
 
 const THEN_PLACES: u64 = 16;
 
-const ODD: u64 = 274877906944;
+const USUAL: u64 = 274877906944;
 
 const STATE_PLACES: usize = 64;
 
@@ -161,5 +161,5 @@ pub fn then_in(entry: u64) -> usize
 pub fn is_usual(entry: u64, state: usize) -> bool
     ensures { λ r. ⌜ r ≡ usualIn entry state ⌝ }
 {
-    (entry / ODD >> (state % STATE_PLACES)) % 2 == 0
+    (entry / USUAL >> (state % STATE_PLACES)) % 2 == 1
 }

@@ -23,7 +23,7 @@ use Rattle.rules.proofs.Sides.{rule, after, outcome-cells, row-on, verdict-on}
 use Rattle.rules.proofs.Places.{past}
 use Rattle.rules.proofs.Rows.{whole-row, verdict-is}
 use Rattle.entries.specs.States as state
-use Rattle.entries.specs.Entries.{word, entryOf, classIn, thenIn, usualIn, thenOf, oddStates, bits, markNumber}
+use Rattle.entries.specs.Entries.{word, entryOf, classIn, thenIn, usualIn, thenOf, usualStates, bits, markNumber}
 use Rattle.entries.proofs.Keys.{at-every}
 use Rattle.entries.proofs.Facts.{Worded, worded}
 use Rattle.turns.specs.Acts as act
@@ -83,7 +83,7 @@ pub record Held (tb : Table) : Type 0 where
   pub written : (c : ℕ) → T (all-written-right (sortIn tb c))
 
 pub held : Held castilian
-unfolding all-written-right written-right allowed same-row cellsBy ownBy wayOf silentAs word thenOf oddStates bits markNumber signCells ownCells lowerCells markOf class isDigitCell dots castilian
+unfolding all-written-right written-right allowed same-row cellsBy ownBy wayOf silentAs word thenOf usualStates bits markNumber signCells ownCells lowerCells markOf class isDigitCell dots castilian
 held = record { words = worded; zero = zero-unlisted; written = λ c. at-every all-written-right castilian tt tt c }
 
 module _ (tb : Table) (h : Held tb) where
@@ -131,7 +131,7 @@ module _ (tb : Table) (h : Held tb) where
         → thenIn (entryOf tb (getD text i 0)) * act.ways + act.bareWay ≡ settledBy (deedOf s (classIn (entryOf tb (getD text i 0)))) ahead
     usual-deed s l e =
         let c : ℕ = getD text i 0 in
-        let u : eqb (bits (oddStates (class sortHere)) / 2 ^ (s % 64) % 2) 0 ≡ true = ap (λ (o : ℕ). eqb (o / 2 ^ (s % 64) % 2) 0) (sym (h .words .odd-is c)) ∙ e in
+        let u : eqb (bits (usualStates (class sortHere)) / 2 ^ (s % 64) % 2) 1 ≡ true = ap (λ (o : ℕ). eqb (o / 2 ^ (s % 64) % 2) 1) (sym (h .words .usuals-are c)) ∙ e in
         ap (λ (n : ℕ). n * act.ways + act.bareWay) (h .words .then-is c)
         ∙ sym (usual-is s (class sortHere) ahead l u)
         ∙ sym (ap (λ (k : ℕ). settledBy (deedOf s k) ahead) (h .words .class-is c))

@@ -15,7 +15,7 @@ use Rattle.rules.proofs.States.{Past, Future}
 use Rattle.rules.proofs.Enumerations.{pasts, classes, futures, ways}
 use Rattle.rules.proofs.Sides.{caps-next, form-next, digit-next, rule, look, after}
 use Rattle.entries.specs.States as state
-use Rattle.entries.specs.Entries.{thenOf, oddStates, bits}
+use Rattle.entries.specs.Entries.{thenOf, usualStates, bits}
 use Rattle.turns.specs.Acts as act
 use Rattle.turns.proofs.Places.{below, at-below}
 use Rattle.turns.specs.Deeds.{deeds}
@@ -62,24 +62,24 @@ settled-else d f a b c e = sym (rw (ne-eqb d act.beginsRun a, ne-eqb d act.begin
 pub settled-low : (d : ℕ) (f : Future) → d < act.questions → settledBy d f ≡ d
 settled-low d f l = sym (settled-else d f (λ e. omega (arith, l, e)) (λ e. omega (arith, l, e)) (λ e. omega (arith, l, e)) (λ e. omega (arith, l, e)))
 
--- AS USUAL: in a state that is not among the odd ones of a class, the deed is its own cells and the state that it leads to
+-- AS USUAL: in a state that is among the usual ones of a class, the deed is its own cells and the state that it leads to
 usual-right : ℕ → Class → Bool
 usual-right s c =
-    not (eqb (bits (oddStates c) / 2 ^ (s % 64) % 2) 0)
+    not (eqb (bits (usualStates c) / 2 ^ (s % 64) % 2) 1)
     || (eqb (deedOf s (classNumber c)) (thenOf c * act.ways + act.bareWay) && ltb (thenOf c * act.ways + act.bareWay) act.questions)
 
 usuals-right : T (below (λ s. every (usual-right s) (classes .members)) state.states)
-unfolding usual-right bits oddStates thenOf deedOf deeds
+unfolding usual-right bits usualStates thenOf deedOf deeds
 usuals-right = tt
 
-pub usual-is : (s : ℕ) (c : Class) (f : Future) → s < state.states → eqb (bits (oddStates c) / 2 ^ (s % 64) % 2) 0 ≡ true
+pub usual-is : (s : ℕ) (c : Class) (f : Future) → s < state.states → eqb (bits (usualStates c) / 2 ^ (s % 64) % 2) 1 ≡ true
     → settledBy (deedOf s (classNumber c)) f ≡ thenOf c * act.ways + act.bareWay
 unfolding usual-right
 usual-is s c f l e =
     let b : Bool = eqb (deedOf s (classNumber c)) (thenOf c * act.ways + act.bareWay) in
     let d : Bool = ltb (thenOf c * act.ways + act.bareWay) act.questions in
     let t : T (b && d) =
-    implies (eqb (bits (oddStates c) / 2 ^ (s % 64) % 2) 0) (b && d) (rw e tt)
+    implies (eqb (bits (usualStates c) / 2 ^ (s % 64) % 2) 1) (b && d) (rw e tt)
     (classes .at (usual-right s) (at-below (λ s. every (usual-right s) (classes .members)) state.states usuals-right s l) c)
     in
     let h : Hold (b ∷ d ∷ []) = hold (b ∷ d ∷ []) (both b d t) in
