@@ -7,13 +7,14 @@ use mathlib.Core.Logic.{⊎-elim}
 use Prim.Native.Nat.{ℕ}
 use native.Mathlib.Omega.{arith}
 use lib.Dec.{eqb}
-use lib.ListN.{length}
+use lib.ListN.{length, drop}
 use borrow.Author.Tests.{eqb-true, eqb-false}
+use Rattle.rules.specs.Cells.{Row}
 use Rattle.rules.proofs.Finite.{le-or-lt}
 use Rattle.entries.proofs.Keys.{among, Rest, rest-none}
 use Rattle.entries.specs.Entries.{countIn, firstIn, secondIn, thirdIn, lowerIn}
 use Rattle.turns.specs.Acts as act
-use Rattle.transcriber.specs.Passes.{choose, ownBy, waysOf, cellsBy}
+use Rattle.transcriber.specs.Passes.{choose, ownBy, waysOf, cellsBy, widths, widthBy}
 
 -- what is chosen by a number that is none of the keys is what is left
 module _ {A : Type 0} where
@@ -32,6 +33,19 @@ module _ {A : Type 0} where
 
   pub chosen-rest : (es : List (ℕ × A)) (n : ℕ) (d : A) → Rest Unit (keysOf es) n → choose es n d ≡ d
   chosen-rest es n d r = choose-none es n d (rest-none Unit (keysOf es) n r .1)
+
+abbrev lengths : List (ℕ × Row) → List (ℕ × ℕ)
+lengths [] = []
+lengths (e ∷ es) = (e .0, length (e .1)) ∷ lengths es
+
+lengths-chosen : (es : List (ℕ × Row)) (n : ℕ) (r : Row) → length (choose es n r) ≡ choose (lengths es) n (length r)
+lengths-chosen [] n r = refl
+lengths-chosen (e ∷ es) n r = go (eqb n (e .0)) (lengths-chosen es n r)
+  where
+    go : (b : Bool) → length (choose es n r) ≡ choose (lengths es) n (length r)
+        → length (cond b (e .1) (choose es n r)) ≡ cond b (length (e .1)) (choose (lengths es) n (length r))
+    go true q = refl
+    go false q = q
 
 module _ (e : ℕ) where
   pub own-none : countIn e ≡ 0 → ownBy e ≡ []
@@ -99,3 +113,8 @@ module _ (w e : ℕ) where
   pub by-rest : Rest Unit (keysOf (waysOf e)) w → cellsBy w e ≡ []
   unfolding cellsBy
   by-rest r = chosen-rest (waysOf e) w [] r
+
+  pub width-is : countIn e ≡ 1 → widthBy w ≡ length (cellsBy w e)
+  unfolding widthBy cellsBy
+  width-is q =
+      sym (lengths-chosen (waysOf e) w [] ∙ ap (λ (n : ℕ). choose ((act.bareWay, n) ∷ drop 1 widths) w 0) (own-length e ∙ q))

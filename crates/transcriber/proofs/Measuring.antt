@@ -24,14 +24,14 @@ use Rattle.entries.specs.Entries.{entryOf, classIn, countIn, thenIn, markIn, us
 use Rattle.turns.specs.Acts as act
 use Rattle.turns.specs.Stages.{itemsFrom, futureAt, stageAt, deedOf, settledBy, actOf}
 use Rattle.turns.proofs.Machine.{stage-small, then-small, parted, faultless, never-paired, done-low}
-use Rattle.transcriber.specs.Passes.{ownBy, cellsBy, openStates, opensOf, pairsBy, faultBy, shown, measuredOf}
+use Rattle.transcriber.specs.Passes.{ownBy, cellsBy, widthBy, openStates, opensOf, pairsBy, faultBy, shown, measuredOf}
 use Rattle.transcriber.specs.declared.Answer.the-variants.{PairBroken}
 use Rattle.transcriber.specs.declared.Measured.the-variants.{Cells, Refused}
 use Rattle.transcriber.specs.declared.Pairs.{Pairs}
 use Rattle.transcriber.specs.declared.Pairs.the-variants.{Stand, Broken}
-use Rattle.transcriber.proofs.Cells.{own-length, by-bare}
+use Rattle.transcriber.proofs.Cells.{own-length, by-bare, width-is}
 use Rattle.transcriber.proofs.Pairing.{kindBy, openerBy, kind-small, mark-says, Turned, pairs-mean, closed-is, none-open}
-use Rattle.transcriber.proofs.Going.{Held, sortHere, next, ahead, outcomeHere, actHere, deed-is, usual-deed, state-after, cells-here, no-fault, row-here, verdict-here, row-end, verdict-end, row-start, verdict-start, judge-on}
+use Rattle.transcriber.proofs.Going.{Held, sortHere, next, ahead, outcomeHere, actHere, deed-is, usual-deed, odd-single, state-after, cells-here, no-fault, row-here, verdict-here, row-end, verdict-end, row-start, verdict-start, judge-on}
 
 -- what `opened`, `state`, `n` and `i` are between two turns; the past is what the state stands for
 pub record Mid (tb : Table) (text : List ℕ) (opened state n i : ℕ) : Type 0 where
@@ -113,11 +113,13 @@ module _ (tb : Table) (h : Held tb) (text : List ℕ) where
       pub act-is : d ≡ actHere tb h text i past
       act-is = deed-is tb h text i past state d at is-d
 
-      pub went-deed : d < act.questions → (w : ℕ) → w ≡ length (cellsBy (d % act.ways) e) → Went past i w (d / act.ways)
-      went-deed l w is-w =
+      pub went-deed : usualIn e state ≡ false → d < act.questions → (w : ℕ) → w ≡ widthBy (d % act.ways) → Went past i w (d / act.ways)
+      went-deed u l w is-w =
           record {
             fine = no-fault tb h text i past d act-is l;
-            width = is-w ∙ ap length (cells-here tb h text i past d act-is l);
+            width =
+                is-w ∙ width-is (d % act.ways) e (odd-single tb h text i past state d state-small u is-d l)
+                ∙ ap length (cells-here tb h text i past d act-is l);
             leads = state-after tb h text i past d act-is l;
           }
 

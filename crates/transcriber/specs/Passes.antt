@@ -51,6 +51,15 @@ waysOf e =
 unfoldable pub cellsBy : ℕ → ℕ → Row
 cellsBy w e = choose (waysOf e) w []
 
+-- how many they are where the word has one cell by itself
+abbrev pub widths : List (ℕ × ℕ)
+widths =
+    (act.bareWay, 1) ∷ (act.oneCapitalWay, 2) ∷ (act.allCapitalsWay, 3) ∷ (act.separatedWay, 2) ∷ (act.firstDigitWay, 2) ∷ (act.firstLowerWay, 2)
+    ∷ (act.lowerWay, 1) ∷ []
+
+unfoldable pub widthBy : ℕ → ℕ
+widthBy w = choose widths w 0
+
 -- THE PAIR RULE over bits: how many states there are; is a kind open; what a mark does
 abbrev pub openStates : ℕ
 openStates = 2 ^ kinds

@@ -25,7 +25,7 @@ ghost use Rattle.rules.proofs.Rows.{whole-row};
 ghost use Rattle.entries.specs.Entries.{marks};
 ghost use Rattle.rows.specs.Laid.{laid};
 ghost use Rattle.transcriber.specs.Promise.{Transcribed};
-ghost use Rattle.transcriber.specs.Passes.{ownBy, cellsBy, pairsBy, faultBy, measuredOf, answerOf, outOf, openStates};
+ghost use Rattle.transcriber.specs.Passes.{ownBy, cellsBy, widthBy, pairsBy, faultBy, measuredOf, answerOf, outOf, openStates};
 
 // The answer. `Done` has the count of cells written; any other is a refusal, and the lent row is then as it was. Paper 01's number and second
 // number for each are given by `Promise.refusalOf`.
@@ -129,12 +129,12 @@ fn put_sign(row: &mut [u8], way: usize, entry: u64) -> usize
     }
 }
 
-// How many cells `put_sign` writes.
-fn width_of(way: usize, entry: u64) -> usize
-    ensures { λ r. ⌜ (r ≡ length (cellsBy way entry)) × (r ≤ 3) ⌝ }
+// How many cells `put_sign` writes for a code point that has one cell of its own, as all have that are not written as usual.
+fn width_of(way: usize) -> usize
+    ensures { λ r. ⌜ (r ≡ widthBy way) × (r ≤ 3) ⌝ }
 {
     match way {
-        BARE => entries::count_in(entry),
+        BARE => 1,
         ONE_CAPITAL => 2,
         ALL_CAPITALS => 3,
         SEPARATED => 2,
@@ -208,7 +208,7 @@ fn measure(text: &[u32]) -> Measured
             if QUESTIONS <= deed {
                 return Measured::Refused(fault_of(deed, i));
             }
-            n = n + width_of(deed % WAYS, entry);
+            n = n + width_of(deed % WAYS);
             state = deed / WAYS;
         }
         i += 1;

@@ -6,8 +6,8 @@ use mathlib.Core.List.{List, [], _∷_}
 use Prim.Native.Nat.{ℕ, _+_, _*_, _/_, _%_, _^_, _<_}
 use native.Mathlib.Omega.{arith}
 use lib.Dec.{T, eqb, ltb, eqb→eq, ltb→lt}
-use borrow.Author.Tests.{ne-eqb}
-use Rattle.rules.specs.Sorts.{Class, classNumber}
+use borrow.Author.Tests.{ne-eqb, lt-ltb}
+use Rattle.rules.specs.Sorts.{Class, aToJ, capital, aStop, aComma, classNumber, _is_, isDigit, isOrdinal}
 use Rattle.rules.specs.Signs.{Way}
 use Rattle.rules.specs.Places.{lacksSign, breaksPair, outsideForm, sharesCells, Outcome, fault, silent, sign}
 use Rattle.rules.proofs.Finite.{every, every2, at2, every3, at3, implies, hold, holds, Hold}
@@ -91,6 +91,26 @@ usual-is s c f l e =
     both true true t = tt
     both true false t = t
     both false d t = t
+
+-- OTHERWISE: what is not written as usual and is no fault is of one of these classes, each of which has one cell of its own
+unfoldable pub isSingle : Class → Bool
+isSingle c = c is aToJ || c is capital || isDigit c || c is aStop || c is aComma || isOrdinal c
+
+single-right : ℕ → Class → Future → Bool
+single-right s c f =
+    not (not (eqb (bits (usualStates c) / 2 ^ (s % 64) % 2) 1) && ltb (settledBy (deedOf s (classNumber c)) f) act.questions) || isSingle c
+
+singles-right : T (below (λ s. every2 classes futures (single-right s)) state.states)
+unfolding single-right isSingle bits usualStates settledBy deedOf deeds
+singles-right = tt
+
+pub single-is : (s : ℕ) (c : Class) (f : Future) → s < state.states → eqb (bits (usualStates c) / 2 ^ (s % 64) % 2) 1 ≡ false
+    → settledBy (deedOf s (classNumber c)) f < act.questions → T (isSingle c)
+unfolding single-right
+single-is s c f l u q =
+    implies (not (eqb (bits (usualStates c) / 2 ^ (s % 64) % 2) 1) && ltb (settledBy (deedOf s (classNumber c)) f) act.questions) (isSingle c)
+    (rw (u, lt-ltb (settledBy (deedOf s (classNumber c)) f) act.questions q) tt)
+    (at2 classes futures (single-right s) (at-below (λ s. every2 classes futures (single-right s)) state.states singles-right s l) c f)
 
 -- WHAT A DEED SAYS. Every state is one of the list.
 stages-small : T (every2 pasts futures (λ p f. ltb (stageAt p f) state.states))

@@ -137,8 +137,9 @@ went c =
     (λ j. let d : D = record { before = record { before = record { before = record { before = u; if2 = j .0 }; class-in = j .1 }; deed-of = j .2 }; if3 = j .3 } in (
       j .6 .result,
       subst (Went castilian held (text l) (past l) (l .loop .i) (j .6 .result)) (sym (j .7))
-          (went-deed castilian held (text l) (past l) (l .loop .i) (l .loop .state) (l .loop .inv .at) (d .if3 .deed) (deed-told d) (j .4 .left) (j .6 .result)
-          (j .6 .ensures .0 ∙ ap (λ (w : ℕ). length (cellsBy (d .if3 .deed % 8) w)) e)),
+          (went-deed castilian held (text l) (past l) (l .loop .i) (l .loop .state) (l .loop .inv .at) (d .if3 .deed) (deed-told d)
+          (sym (u .is-usual .ensures ∙ ap (λ (w : ℕ). usualIn w (l .loop .state)) e) ∙ j .0 .left) (j .4 .left) (j .6 .result)
+          (j .6 .ensures .0)),
       j .8,
       j .6 .ensures .1,
     )) (c .if2 .came)
