@@ -12,7 +12,6 @@ use Rattle.rules.proofs.States.{Past}
 use Rattle.entries.specs.Entries.{entryOf, classIn, countIn, thenIn, markIn, usualIn}
 use Rattle.turns.specs.Stages.{futureAt, deedOf, settledBy}
 use Rattle.turns.proofs.Machine.{settled-low}
-use Rattle.transcriber.specs.Passes.{cellsBy}
 use Rattle.transcriber.specs.declared.Measured.the-variants.{Refused}
 use Rattle.transcriber.proofs.Going.{held}
 use Rattle.transcriber.proofs.Measuring.{Mid, Passed, Went, some-number, passed-none, passed-mark, not-passed, mark-small, act-is, went-deed, went-usual, mid-start, mid-broken, mid-fault, mid-on, mid-done, mid-open}

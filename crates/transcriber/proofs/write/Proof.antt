@@ -15,7 +15,7 @@ use Rattle.rules.proofs.States.{Past}
 use Rattle.rules.proofs.Sides.{outcome-cells}
 use Rattle.entries.specs.Entries.{entryOf, classIn, thenIn, usualIn}
 use Rattle.turns.specs.Acts as act
-use Rattle.turns.specs.Stages.{futureAt, stageAt, deedOf, settledBy, actOf}
+use Rattle.turns.specs.Stages.{futureAt, stageAt, deedOf, settledBy}
 use Rattle.turns.proofs.Machine.{settled-low}
 use Rattle.transcriber.specs.Passes.{ownBy, cellsBy}
 use Rattle.transcriber.proofs.Going.{held, sortHere, next, ahead, outcomeHere, actHere, state-after, cells-here, low-deed}
