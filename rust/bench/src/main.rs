@@ -88,6 +88,8 @@ fn cases() -> Vec<Case> {
         case("digits, one number", again(512, "12345670", "⠼", "⠁⠃⠉⠙⠑⠋⠛⠚")),
         case("digits and points: 1.1.1.", again(2048, "1.", "⠼", "⠁⠄")),
         case("fractions: 3⁄4 3⁄4", again(1024, "3⁄4 ", "", "⠼⠒⠙⠀")),
+        case("fractions: 12⁄16 12⁄16", again(682, "12⁄16 ", "", "⠼⠂⠆⠁⠋⠀")),
+        case("ordinals: 3.º 3.º", again(1024, "3.º ", "", "⠼⠒⠕⠀")),
         case("pairs: ¿?¿?", again(2048, "¿?", "", "⠢⠢")),
         case("crossing pairs: ¿¡«‘?!»’", again(512, "¿¡«‘?!»’", "", "⠢⠖⠦⠠⠦⠢⠖⠦⠠⠦")),
         case("three cells each: ‰", again(4096, "‰", "", "⠸⠴⠴")),
