@@ -79,6 +79,8 @@ const IN_NUMBER: u64 = USUAL << NUMBER;
 
 const IN_LOWERED: u64 = USUAL << LOWERED;
 
+const IN_ORDINAL: u64 = USUAL << ORDINAL;
+
 const IN_UNDER: u64 = USUAL << UNDER;
 
 const IN_GUARDED: u64 = USUAL << GUARDED;
@@ -94,7 +96,7 @@ const IN_ANY: u64 = (USUAL << FREE)
     + (USUAL << MIXED)
     + IN_NUMBER
     + IN_LOWERED
-    + (USUAL << ORDINAL)
+    + IN_ORDINAL
     + (USUAL << BARRED)
     + IN_UNDER
     + IN_GUARDED
@@ -125,9 +127,9 @@ const AS_DASH: u64 = DASH as u64 + THEN * DASHED as u64 + IN_ANY - IN_HYPHENED;
 
 const AS_BAR: u64 = BAR as u64 + THEN * BARRED as u64 + IN_LOWERED;
 
-const AS_MASCULINE: u64 = MASCULINE as u64 + THEN * FREE as u64;
+const AS_MASCULINE: u64 = MASCULINE as u64 + THEN * FREE as u64 + IN_ORDINAL;
 
-const AS_FEMININE: u64 = FEMININE as u64 + THEN * GUARDED as u64;
+const AS_FEMININE: u64 = FEMININE as u64 + THEN * GUARDED as u64 + IN_ORDINAL;
 
 const AS_PERCENT: u64 = PERCENT as u64 + THEN * FREE as u64 + IN_ANY;
 

@@ -19,11 +19,11 @@ use Rattle.rules.proofs.Finite.{le-or-lt}
 use Rattle.rules.proofs.States.{Past, free}
 use Rattle.rules.proofs.Sides.{outcome-cells, row-on, verdict-on}
 use Rattle.rules.proofs.Rows.{whole-row}
-use Rattle.entries.specs.States.{free as freeState, states}
+use Rattle.entries.specs.States.{free as freeState, under as underState, states}
 use Rattle.entries.specs.Entries.{entryOf, classIn, countIn, thenIn, markIn, usualIn, marks, markNumber}
 use Rattle.turns.specs.Acts as act
-use Rattle.turns.specs.Stages.{itemsFrom, futureAt, stageAt, deedOf, settledBy, actOf}
-use Rattle.turns.proofs.Machine.{stage-small, then-small, parted, faultless, never-paired, done-low}
+use Rattle.turns.specs.Stages.{itemsFrom, futureAt, stageAt, deedOf, goesOnUnder, settledBy, actOf}
+use Rattle.turns.proofs.Machine.{stage-small, then-small, under-is, parted, faultless, never-paired, done-low}
 use Rattle.transcriber.specs.Passes.{ownBy, cellsBy, widthBy, openStates, opensOf, pairsBy, faultBy, shown, measuredOf}
 use Rattle.transcriber.specs.declared.Answer.the-variants.{PairBroken}
 use Rattle.transcriber.specs.declared.Measured.the-variants.{Cells, Refused}
@@ -140,6 +140,23 @@ module _ (tb : Table) (h : Held tb) (text : List ℕ) where
 
     pub went-usual : usualIn e state ≡ true → Went past i (countIn e) (thenIn e)
     went-usual u = let g = usual-goes u in record { fine = g .0; width = sym (own-length e) ∙ ap length (g .1); leads = g .2 }
+
+    -- a digit that goes on under the bar of a fraction: its own cell
+    under-told : goesOnUnder state (classIn e) ≡ true → act.digitUnder ≡ settledBy (deedOf state (classIn e)) (ahead tb h text i past)
+    under-told g = under-is state (classIn e) (ahead tb h text i past) (omega (arith, state-small)) (omega arith) g
+
+    pub went-under : goesOnUnder state (classIn e) ≡ true → usualIn e state ≡ false → Went past i 1 underState
+    unfolding widthBy
+    went-under g u = went-deed act.digitUnder (under-told g) u (omega arith) 1 refl
+
+    pub under-goes : goesOnUnder state (classIn e) ≡ true
+        → (ownBy e ≡ outcome-cells (outcomeHere tb h text i past) (sortHere tb h text i past))
+        × (underState ≡ stageAt (next tb h text i past) (ahead tb h text i past))
+    under-goes g =
+        let is-d = act-is act.digitUnder (under-told g) in (
+          sym (by-bare act.bareWay e refl) ∙ cells-here tb h text i past act.digitUnder is-d (omega arith),
+          state-after tb h text i past act.digitUnder is-d (omega arith),
+        )
 
   -- A TURN
   pub mid-start : Mid tb text 0 freeState 0 0

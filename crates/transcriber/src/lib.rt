@@ -2,6 +2,7 @@
 // Two passes over the normalised text: `measure` counts the cells or finds the first refusal, `write` writes. So nothing is written before
 // all is known to fit.
 use entries::FREE;
+use entries::UNDER;
 use normal::Normalised;
 use turns::ALL_CAPITALS;
 use turns::BARE;
@@ -198,6 +199,9 @@ fn measure(text: &[u32]) -> Measured
         if entries::is_usual(entry, state) {
             n = n + entries::count_in(entry);
             state = entries::then_in(entry);
+        } else if turns::goes_on_under(state, entries::class_in(entry)) {
+            n = n + 1;
+            state = UNDER;
         } else {
             let told = turns::deed_of(state, entries::class_in(entry));
             let deed = if told < QUESTIONS {
@@ -232,6 +236,9 @@ fn write(text: &[u32], row: &mut [u8]) -> usize
         if entries::is_usual(entry, state) {
             n = n + put_own(&mut row[n..], entry);
             state = entries::then_in(entry);
+        } else if turns::goes_on_under(state, entries::class_in(entry)) {
+            n = n + put_own(&mut row[n..], entry);
+            state = UNDER;
         } else {
             let told = turns::deed_of(state, entries::class_in(entry));
             let deed = if told < QUESTIONS {

@@ -19,7 +19,7 @@ use Rattle.entries.specs.Entries.{thenOf, usualStates, bits}
 use Rattle.turns.specs.Acts as act
 use Rattle.turns.proofs.Places.{below, at-below}
 use Rattle.turns.specs.Deeds.{deeds}
-use Rattle.turns.specs.Stages.{stageAt, deedOf, settledBy, wayOf, silentAs, actOf}
+use Rattle.turns.specs.Stages.{stageAt, deedOf, goesOnUnder, settledBy, wayOf, silentAs, actOf}
 
 turn-right : Past → Class → Future → Bool
 turn-right p c f = eqb (settledBy (deedOf (stageAt p (look c f)) (classNumber c)) f) (actOf c (rule p c f) (stageAt (after p c) f))
@@ -91,6 +91,21 @@ usual-is s c f l e =
     both true true t = tt
     both true false t = t
     both false d t = t
+
+-- UNDER A BAR: a digit that goes on there is what the table says too
+unders-right : T (below (λ s. below (λ c. not (goesOnUnder s c) || eqb (deedOf s c) act.digitUnder) 16) 16)
+unfolding goesOnUnder deedOf deeds
+unders-right = tt
+
+pub under-is : (s c : ℕ) (f : Future) → s < 16 → c < 16 → goesOnUnder s c ≡ true → act.digitUnder ≡ settledBy (deedOf s c) f
+under-is s c f k l e =
+    let q : deedOf s c ≡ act.digitUnder =
+    eqb→eq (deedOf s c) act.digitUnder
+    (implies (goesOnUnder s c) (eqb (deedOf s c) act.digitUnder) (rw e tt)
+    (at-below (λ c. not (goesOnUnder s c) || eqb (deedOf s c) act.digitUnder) 16
+    (at-below (λ s. below (λ c. not (goesOnUnder s c) || eqb (deedOf s c) act.digitUnder) 16) 16 unders-right s k) c l))
+    in
+    sym (settled-low act.digitUnder f (omega arith)) ∙ ap (λ (d : ℕ). settledBy d f) (sym q)
 
 -- OTHERWISE: what is not written as usual and is no fault is of one of these classes, each of which has one cell of its own
 unfoldable pub isSingle : Class → Bool

@@ -10,11 +10,11 @@ use lib.ListN.{length, getD}
 use Rattle.rules.specs.Castilian.{castilian}
 use Rattle.rules.proofs.States.{Past}
 use Rattle.entries.specs.Entries.{entryOf, classIn, countIn, thenIn, markIn, usualIn}
-use Rattle.turns.specs.Stages.{futureAt, deedOf, settledBy}
+use Rattle.turns.specs.Stages.{futureAt, deedOf, goesOnUnder, settledBy}
 use Rattle.turns.proofs.Machine.{settled-low}
 use Rattle.transcriber.specs.declared.Measured.the-variants.{Refused}
 use Rattle.transcriber.proofs.Going.{held}
-use Rattle.transcriber.proofs.Measuring.{Mid, Passed, Went, some-number, passed-none, passed-mark, not-passed, mark-small, act-is, went-deed, went-usual, mid-start, mid-broken, mid-fault, mid-on, mid-done, mid-open}
+use Rattle.transcriber.proofs.Measuring.{Mid, Passed, Went, some-number, passed-none, passed-mark, not-passed, mark-small, act-is, went-deed, went-usual, went-under, mid-start, mid-broken, mid-fault, mid-on, mid-done, mid-open}
 use Rattle.transcriber.proofs.measure.Statement.{statement}
 use Rattle.transcriber.proofs.measure.Tie as tie
 use Rattle.transcriber.proofs.measure.Reads as reads
@@ -29,6 +29,7 @@ use Rattle.transcriber.proofs.fault_of.Reads as fault-of-reads
 use Rattle.transcriber.proofs.pairs_after.Reads as pairs-after-reads
 use Rattle.transcriber.proofs.width_of.Reads as width-of-reads
 use Rattle.turns.proofs.deed_of.Reads as deed-of-reads
+use Rattle.turns.proofs.goes_on_under.Reads as goes-on-under-reads
 use Rattle.turns.proofs.settled.Reads as settled-reads
 
 abbrev Inv-loop : tie.InvT-loop
@@ -95,30 +96,43 @@ at-u c = at-j (c .before)
 abbrev past : L → Past
 past l = l .loop .inv .past
 
+abbrev G : Type 0
+G = tie.After-goes-on-under Inv-loop μ-loop
+
+abbrev from-g : G → U
+from-g c = c .before .before .before
+
+-- whether it is a digit that goes on under a bar
+under-told : (c : G) → let l = at-u (from-g c) in c .goes-on-under .result ≡ goesOnUnder (l .loop .state) (classIn (entry l))
+under-told c =
+    let l = at-u (from-g c) in
+    c .goes-on-under .ensures
+    ∙ ap (goesOnUnder (l .loop .state)) (c .before .class-in .ensures ∙ ap classIn (from-g c .before .before .before .entry-of .ensures))
+
 abbrev D : Type 0
-D = tie.Joined3 Inv-loop μ-loop
+D = tie.Joined4 Inv-loop μ-loop
 
 abbrev from-d : D → U
-from-d c = c .before .before .before .before
+from-d c = from-g (c .before .before .before .before)
 
 -- the deed, in the rules' words: what follows is asked only where there is a question
 deed-told : (c : D) → let l = at-u (from-d c) in
-    c .if3 .deed ≡ settledBy (deedOf (l .loop .state) (classIn (entry l))) (futureAt castilian (text l) (l .loop .i + 1))
+    c .if4 .deed ≡ settledBy (deedOf (l .loop .state) (classIn (entry l))) (futureAt castilian (text l) (l .loop .i + 1))
 deed-told c =
     let u = from-d c in
     let l = at-u u in
     let f = futureAt castilian (text l) (l .loop .i + 1) in
     let told : c .before .deed-of .result ≡ deedOf (l .loop .state) (classIn (entry l)) =
     c .before .deed-of .ensures
-    ∙ ap (deedOf (l .loop .state)) (c .before .before .class-in .ensures ∙ ap classIn (u .before .before .before .entry-of .ensures))
+    ∙ ap (deedOf (l .loop .state)) (c .before .before .class-in2 .ensures ∙ ap classIn (u .before .before .before .entry-of .ensures))
     in
-    ⊎-elim (λ j. j .1 ∙ sym (settled-low (c .before .deed-of .result) f (j .0 .taken))) (λ j. j .2 ∙ j .1 .ensures) (c .if3 .came)
+    ⊎-elim (λ j. j .1 ∙ sym (settled-low (c .before .deed-of .result) f (j .0 .taken))) (λ j. j .2 ∙ j .1 .ensures) (c .if4 .came)
     ∙ ap (λ (d : ℕ). settledBy d f) told
 
 abbrev W : L → ℕ → ℕ → Type 0
 W l s n = (w : ℕ) × Went castilian held (text l) (past l) (l .loop .i) w s × (n ≡ l .loop .n + w) × (w ≤ 3)
 
--- the deed, where its two ways meet: the state after it, and how many cells it has
+-- the deed, where its three ways meet: the state after it, and how many cells it has
 went : (c : tie.Joined2 Inv-loop μ-loop) → W (at-u (c .before)) (c .if2 .state) (c .if2 .n)
 went c =
     let u = c .before in
@@ -133,15 +147,24 @@ went c =
       j .4 ∙ ap (λ (k : ℕ). l .loop .n + k) (j .1 .ensures ∙ ap countIn e),
       omega arith,
     ))
-    (λ j. let d : D = record { before = record { before = record { before = record { before = u; if2 = j .0 }; class-in = j .1 }; deed-of = j .2 }; if3 = j .3 } in (
-      j .6 .result,
-      subst (Went castilian held (text l) (past l) (l .loop .i) (j .6 .result)) (sym (j .7))
-          (went-deed castilian held (text l) (past l) (l .loop .i) (l .loop .state) (l .loop .inv .at) (d .if3 .deed) (deed-told d)
-          (sym (u .is-usual .ensures ∙ ap (λ (w : ℕ). usualIn w (l .loop .state)) e) ∙ j .0 .left) (j .4 .left) (j .6 .result)
-          (j .6 .ensures .0)),
-      j .8,
-      j .6 .ensures .1,
-    )) (c .if2 .came)
+    (⊎-elim
+    (λ j. let g : G = record { before = record { before = record { before = u; if2 = j .0 }; class-in = j .1 }; goes-on-under = j .2 } in (
+      1,
+      subst (Went castilian held (text l) (past l) (l .loop .i) 1) (sym (j .4))
+          (went-under castilian held (text l) (past l) (l .loop .i) (l .loop .state) (l .loop .inv .at) (sym (under-told g) ∙ j .3 .taken)
+          (sym (u .is-usual .ensures ∙ ap (λ (w : ℕ). usualIn w (l .loop .state)) e) ∙ j .0 .left)),
+      j .5,
+      omega arith,
+    ))
+    (λ j. let g : G = record { before = record { before = record { before = u; if2 = j .0 }; class-in = j .1 }; goes-on-under = j .2 } in
+    let d : D = record { before = record { before = record { before = record { before = g; if3 = j .3 }; class-in2 = j .4 }; deed-of = j .5 }; if4 = j .6 } in (
+      j .9 .result,
+      subst (Went castilian held (text l) (past l) (l .loop .i) (j .9 .result)) (sym (j .10))
+          (went-deed castilian held (text l) (past l) (l .loop .i) (l .loop .state) (l .loop .inv .at) (d .if4 .deed) (deed-told d)
+          (sym (u .is-usual .ensures ∙ ap (λ (w : ℕ). usualIn w (l .loop .state)) e) ∙ j .0 .left) (j .7 .left) (j .9 .result) (j .9 .ensures .0)),
+      j .11,
+      j .9 .ensures .1,
+    ))) (c .if2 .came)
 
 loop-holds : tie.Need-loop-holds Inv-loop μ-loop
 loop-holds c = mid-start castilian held (c .before .args .text .now)
@@ -197,6 +220,17 @@ then-in-requires c κs = search needs
 class-in-requires : tie.Need-class-in-requires Inv-loop μ-loop
 class-in-requires c κs = search needs
 
+goes-on-under-requires : tie.Need-goes-on-under-requires Inv-loop μ-loop
+goes-on-under-requires c κs = search needs
+
+add-n-2 : tie.Need-add-n-2 Inv-loop μ-loop
+add-n-2 c =
+    let l = at-u (from-g (c .before)) in
+    omega (arith, l .loop .inv .low, l .loop .inv .inside, l .before .before .pre)
+
+class-in-requires-2 : tie.Need-class-in-requires-2 Inv-loop μ-loop
+class-in-requires-2 c κs = search needs
+
 deed-of-requires : tie.Need-deed-of-requires Inv-loop μ-loop
 deed-of-requires c κs = search needs
 
@@ -216,14 +250,14 @@ returns-2 c =
     let l = at-u u in
     ap Refused (c .fault-of .ensures)
     ∙ mid-fault castilian held (text l) (l .loop .opened) (l .loop .state) (l .loop .n) (l .loop .i) (l .loop .inv)
-    (u .before .before .before .before .before .loop-test .taken) (u .before .if1 .opened) (passed (u .before)) (d .if3 .deed)
-    (act-is castilian held (text l) (past l) (l .loop .i) (l .loop .state) (l .loop .inv .at) (d .if3 .deed) (deed-told d)) (c .before .if4 .taken)
+    (u .before .before .before .before .before .loop-test .taken) (u .before .if1 .opened) (passed (u .before)) (d .if4 .deed)
+    (act-is castilian held (text l) (past l) (l .loop .i) (l .loop .state) (l .loop .inv .at) (d .if4 .deed) (deed-told d)) (c .before .if5 .taken)
 
 width-of-requires : tie.Need-width-of-requires Inv-loop μ-loop
 width-of-requires c κs = search needs
 
-add-n-2 : tie.Need-add-n-2 Inv-loop μ-loop
-add-n-2 c =
+add-n-3 : tie.Need-add-n-3 Inv-loop μ-loop
+add-n-3 c =
     let u = from-d (c .before .before .before) in
     let l = at-u u in
     omega (arith, c .width-of .ensures .1, l .loop .inv .low, l .loop .inv .inside, l .before .before .pre)
@@ -246,12 +280,12 @@ loop-again c =
 returns-3 : tie.Need-returns-3 Inv-loop μ-loop
 returns-3 c =
     let l = c .before .before in
-    mid-done castilian held (text l) (l .loop .opened) (l .loop .state) (l .loop .n) (l .loop .i) (l .loop .inv) (c .before .loop-test .left) (c .if5 .taken)
+    mid-done castilian held (text l) (l .loop .opened) (l .loop .state) (l .loop .n) (l .loop .i) (l .loop .inv) (c .before .loop-test .left) (c .if6 .taken)
 
 returns-4 : tie.Need-returns-4 Inv-loop μ-loop
 returns-4 c =
     let l = c .before .before in
-    mid-open castilian held (text l) (l .loop .opened) (l .loop .state) (l .loop .n) (l .loop .i) (l .loop .inv) (c .before .loop-test .left) (c .if5 .left)
+    mid-open castilian held (text l) (l .loop .opened) (l .loop .state) (l .loop .n) (l .loop .i) (l .loop .inv) (c .before .loop-test .left) (c .if6 .left)
 
 pub measure-spec : {M : Type 1} → statement M
 measure-spec =
@@ -273,13 +307,16 @@ measure-spec =
     add-n
     then-in-requires
     class-in-requires
+    goes-on-under-requires
+    add-n-2
+    class-in-requires-2
     deed-of-requires
     add-settled
     settled-requires
     fault-of-requires
     returns-2
     width-of-requires
-    add-n-2
+    add-n-3
     add-i
     loop-less
     loop-again
