@@ -77,19 +77,19 @@ pub all-written-right : Sort → Bool
 all-written-right s = every (written-right s) (ways .members) && same-row (cellsBy (silentAs (class s)) (word s)) []
 
 -- a class that may be written otherwise than as usual has one cell
-pub single-right : Sort → Bool
-single-right s = not (isSingle (class s)) || eqb (countIn (word s)) 1
+pub one-cell : Sort → Bool
+one-cell s = not (isSingle (class s)) || eqb (countIn (word s)) 1
 
 -- what a table must pass: its words have their fields, its signs their cells, and 0 has no sign
 pub record Held (tb : Table) : Type 0 where
   pub words : Worded tb
   pub zero : class (sortIn tb 0) ≡ unlisted
   pub written : (c : ℕ) → T (all-written-right (sortIn tb c))
-  pub single : (c : ℕ) → T (single-right (sortIn tb c))
+  pub single : (c : ℕ) → T (one-cell (sortIn tb c))
 
 pub held : Held castilian
-unfolding all-written-right single-right isSingle written-right allowed same-row cellsBy ownBy wayOf silentAs word thenOf usualStates bits markNumber signCells ownCells lowerCells markOf class isDigitCell dots castilian
-held = record { words = worded; zero = zero-unlisted; written = λ c. at-every all-written-right castilian tt tt c; single = λ c. at-every single-right castilian tt tt c }
+unfolding all-written-right one-cell isSingle written-right allowed same-row cellsBy ownBy wayOf silentAs word thenOf usualStates bits markNumber signCells ownCells lowerCells markOf class isDigitCell dots castilian
+held = record { words = worded; zero = zero-unlisted; written = λ c. at-every all-written-right castilian tt tt c; single = λ c. at-every one-cell castilian tt tt c }
 
 module _ (tb : Table) (h : Held tb) where
   cells-by : (c : ℕ) (x : Outcome) → T (allowed-outcome x (class (sortIn tb c))) → faultless x ≡ true
@@ -144,7 +144,7 @@ module _ (tb : Table) (h : Held tb) where
     -- what is not written as usual, and is no fault, has one cell of its own
     pub odd-single : (s d : ℕ) → s < state.states → usualIn (entryOf tb (getD text i 0)) s ≡ false
         → d ≡ settledBy (deedOf s (classIn (entryOf tb (getD text i 0)))) ahead → d < act.questions → countIn (entryOf tb (getD text i 0)) ≡ 1
-    unfolding entryOf single-right
+    unfolding entryOf one-cell
     odd-single s d l e is-d low =
         let c : ℕ = getD text i 0 in
         let u : eqb (bits (usualStates (class sortHere)) / 2 ^ (s % 64) % 2) 1 ≡ false = ap (λ (o : ℕ). eqb (o / 2 ^ (s % 64) % 2) 1) (sym (h .words .usuals-are c)) ∙ e in

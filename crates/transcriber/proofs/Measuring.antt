@@ -143,7 +143,7 @@ module _ (tb : Table) (h : Held tb) (text : List ℕ) where
 
     -- a digit that goes on under the bar of a fraction: its own cell
     under-told : goesOnUnder state (classIn e) ≡ true → act.digitUnder ≡ settledBy (deedOf state (classIn e)) (ahead tb h text i past)
-    under-told g = under-is state (classIn e) (ahead tb h text i past) (omega (arith, state-small)) (omega arith) g
+    under-told g = under-is state (classIn e) (ahead tb h text i past) state-small (omega arith) g
 
     pub went-under : goesOnUnder state (classIn e) ≡ true → usualIn e state ≡ false → Went past i 1 underState
     unfolding widthBy

@@ -178,7 +178,7 @@ fn fault_of(deed: usize, place: usize) -> Answer
     }
 }
 
-// The first pass: the count of cells, or the first refusal.
+// The first pass: the count of cells, or the first refusal. In both passes what follows a place is read only where the table has a question.
 fn measure(text: &[u32]) -> Measured
     requires { ⌜ length (now text) ≤ longestText ⌝ }
     ensures { λ r. ⌜ r ≡ measuredOf castilian (now (text .entry)) ⌝ }

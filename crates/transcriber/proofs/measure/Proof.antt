@@ -96,15 +96,19 @@ at-u c = at-j (c .before)
 abbrev past : L → Past
 past l = l .loop .inv .past
 
+-- whether it is written as usual, by its word
+usual-told : (c : U) → let l = at-u c in c .is-usual .result ≡ usualIn (entry l) (l .loop .state)
+usual-told c = c .is-usual .ensures ∙ ap (λ (w : ℕ). usualIn w (at-u c .loop .state)) (c .before .before .before .entry-of .ensures)
+
 abbrev G : Type 0
 G = tie.After-goes-on-under Inv-loop μ-loop
 
 abbrev from-g : G → U
 from-g c = c .before .before .before
 
--- whether it is a digit that goes on under a bar
-under-told : (c : G) → let l = at-u (from-g c) in c .goes-on-under .result ≡ goesOnUnder (l .loop .state) (classIn (entry l))
-under-told c =
+-- whether it is a digit that goes on under a bar, by its word
+goes-told : (c : G) → let l = at-u (from-g c) in c .goes-on-under .result ≡ goesOnUnder (l .loop .state) (classIn (entry l))
+goes-told c =
     let l = at-u (from-g c) in
     c .goes-on-under .ensures
     ∙ ap (goesOnUnder (l .loop .state)) (c .before .class-in .ensures ∙ ap classIn (from-g c .before .before .before .entry-of .ensures))
@@ -143,7 +147,7 @@ went c =
       countIn (entry l),
       subst (Went castilian held (text l) (past l) (l .loop .i) (countIn (entry l))) (sym (j .3 ∙ j .2 .ensures ∙ ap thenIn e))
           (went-usual castilian held (text l) (past l) (l .loop .i) (l .loop .state) (l .loop .inv .at)
-          (sym (u .is-usual .ensures ∙ ap (λ (w : ℕ). usualIn w (l .loop .state)) e) ∙ j .0 .taken)),
+          (sym (usual-told u) ∙ j .0 .taken)),
       j .4 ∙ ap (λ (k : ℕ). l .loop .n + k) (j .1 .ensures ∙ ap countIn e),
       omega arith,
     ))
@@ -151,8 +155,8 @@ went c =
     (λ j. let g : G = record { before = record { before = record { before = u; if2 = j .0 }; class-in = j .1 }; goes-on-under = j .2 } in (
       1,
       subst (Went castilian held (text l) (past l) (l .loop .i) 1) (sym (j .4))
-          (went-under castilian held (text l) (past l) (l .loop .i) (l .loop .state) (l .loop .inv .at) (sym (under-told g) ∙ j .3 .taken)
-          (sym (u .is-usual .ensures ∙ ap (λ (w : ℕ). usualIn w (l .loop .state)) e) ∙ j .0 .left)),
+          (went-under castilian held (text l) (past l) (l .loop .i) (l .loop .state) (l .loop .inv .at) (sym (goes-told g) ∙ j .3 .taken)
+          (sym (usual-told u) ∙ j .0 .left)),
       j .5,
       omega arith,
     ))
@@ -161,7 +165,7 @@ went c =
       j .9 .result,
       subst (Went castilian held (text l) (past l) (l .loop .i) (j .9 .result)) (sym (j .10))
           (went-deed castilian held (text l) (past l) (l .loop .i) (l .loop .state) (l .loop .inv .at) (d .if4 .deed) (deed-told d)
-          (sym (u .is-usual .ensures ∙ ap (λ (w : ℕ). usualIn w (l .loop .state)) e) ∙ j .0 .left) (j .7 .left) (j .9 .result) (j .9 .ensures .0)),
+          (sym (usual-told u) ∙ j .0 .left) (j .7 .left) (j .9 .result) (j .9 .ensures .0)),
       j .11,
       j .9 .ensures .1,
     ))) (c .if2 .came)

@@ -94,9 +94,9 @@ abbrev from-g : G → U
 from-g c = c .before .before .before
 
 -- a digit that goes on under a bar: the word's own cells are the sign's
-under : (c : G) → c .goes-on-under .result ≡ true
-    → (ownBy (from-g c .before .entry-of .result) ≡ here (at-u (from-g c)))
-    × (underState ≡ stageAt (next castilian held (text (at-u (from-g c))) (at-u (from-g c) .loop .place) (past (at-u (from-g c)))) (ahead castilian held (text (at-u (from-g c))) (at-u (from-g c) .loop .place) (past (at-u (from-g c)))))
+under : (c : G) → let l = at-u (from-g c) in c .goes-on-under .result ≡ true
+    → (ownBy (from-g c .before .entry-of .result) ≡ here l)
+    × (underState ≡ stageAt (next castilian held (text l) (l .loop .place) (past l)) (ahead castilian held (text l) (l .loop .place) (past l)))
 under c e =
     let u = from-g c in
     let l = at-u u in
