@@ -1,13 +1,14 @@
--- Tests over every member of a finite type. A fact about a finite machine is one Bool, computed over all of its states; `at` turns it into
--- the fact at each state, so that no proof has a case for each. What a test finds at a state is a list of Bools, and `Hold` lets a proof
--- take the one that it wants by its place. Assumes nothing.
+-- Tests over every member of a finite type, or every number below a bound. A fact about a finite machine is one Bool, computed over all of
+-- its states; `at` turns it into the fact at each state, so that no proof has a case for each. What a test finds at a state is a list of
+-- Bools, and `Hold` lets a proof take the one that it wants by its place. Assumes nothing.
 use mathlib.Core.Path.{_≡_, refl, sym, subst}
-use mathlib.Core.Logic.{_⊎_, inl, inr}
+use mathlib.Core.Logic.{_⊎_, inl, inr, ⊎-elim}
 use mathlib.Core.Bool.{Bool, true, false, _&&_, _||_, not, Bool·beq}
 use mathlib.Core.List.{List, [], _∷_}
 use mathlib.Core.Option.{none, some}
-use Prim.Native.Nat.{ℕ, _≤_, _<_}
+use Prim.Native.Nat.{ℕ, zero, suc, _≤_, _<_}
 use native.Mathlib.Omega.{arith}
+use native.Mathlib.Nat.{not-suc-le-zero}
 use lib.Dec.{T, eqb, eqb-refl, leb, leb→le, nleb→lt}
 
 pub and-left : (a b : Bool) → T (a && b) → T a
@@ -50,6 +51,17 @@ le-or-lt m n = go (leb m n) refl
     go : (b : Bool) → leb m n ≡ b → (m ≤ n) ⊎ (n < m)
     go true e = inl (leb→le m n (subst T (sym e) tt))
     go false e = inr (nleb→lt m n (subst (λ (b : Bool). T (not b)) (sym e) tt))
+
+-- a test at every number below a bound
+abbrev pub below : (ℕ → Bool) → ℕ → Bool
+below f zero = true
+below f (suc n) = f n && below f n
+
+pub at-below : (f : ℕ → Bool) (n : ℕ) → T (below f n) → (k : ℕ) → k < n → T (f k)
+at-below f zero t k h = absurd (not-suc-le-zero h)
+at-below f (suc n) t k h =
+    ⊎-elim (λ q. at-below f n (and-right (f n) (below f n) t) k q)
+    (λ q. subst (λ (m : ℕ). T (f m)) (omega arith) (and-left (f n) (below f n) t)) (le-or-lt (suc k) n)
 
 -- no value is both `none` and `some`
 pub nothing : {A B : Type 0} {a : A} → none ≡ some a → B

@@ -1,5 +1,4 @@
 pub mod Cells
-pub mod Pairing
 pub mod Going
 pub mod Measuring
 pub mod Writing

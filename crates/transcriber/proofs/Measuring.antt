@@ -21,16 +21,17 @@ use Rattle.rules.proofs.Sides.{outcome-cells, row-on, verdict-on}
 use Rattle.rules.proofs.Rows.{whole-row}
 use Rattle.entries.specs.States.{free as freeState, under as underState, states}
 use Rattle.entries.specs.Entries.{entryOf, classIn, countIn, thenIn, markIn, usualIn, marks, markNumber}
+use Rattle.pairs.specs.Opened.{openStates, opensOf, kindBy, openerBy, pairsBy}
+use Rattle.pairs.specs.declared.Pairs.{Pairs}
+use Rattle.pairs.specs.declared.Pairs.the-variants.{Stand, Broken}
+use Rattle.pairs.proofs.Pairing.{kind-small, mark-says, Means, pairs-mean, closed-is, none-open}
 use Rattle.turns.specs.Acts as act
 use Rattle.turns.specs.Stages.{itemsFrom, futureAt, stageAt, deedOf, goesOnUnder, settledBy, actOf}
 use Rattle.turns.proofs.Machine.{stage-small, then-small, under-is, parted, faultless, never-paired, done-low}
-use Rattle.transcriber.specs.Passes.{ownBy, cellsBy, widthBy, openStates, opensOf, pairsBy, faultBy, shown, measuredOf}
+use Rattle.transcriber.specs.Passes.{ownBy, cellsBy, widthBy, faultBy, shown, measuredOf}
 use Rattle.transcriber.specs.declared.Answer.the-variants.{PairBroken}
 use Rattle.transcriber.specs.declared.Measured.the-variants.{Cells, Refused}
-use Rattle.transcriber.specs.declared.Pairs.{Pairs}
-use Rattle.transcriber.specs.declared.Pairs.the-variants.{Stand, Broken}
 use Rattle.transcriber.proofs.Cells.{own-length, by-bare, width-is}
-use Rattle.transcriber.proofs.Pairing.{kindBy, openerBy, kind-small, mark-says, Turned, pairs-mean, closed-is, none-open}
 use Rattle.transcriber.proofs.Going.{Held, sortHere, next, ahead, outcomeHere, actHere, deed-is, usual-deed, odd-single, state-after, cells-here, no-fault, row-here, verdict-here, row-end, verdict-end, row-start, verdict-start, judge-on}
 
 -- what `opened`, `state`, `n` and `i` are between two turns; the past is what the state stands for
@@ -85,8 +86,8 @@ module _ (tb : Table) (h : Held tb) (text : List ℕ) where
           mark-says (markOf (sortIn tb c)) (subst (λ (k : ℕ). 0 < k) number some-mark) (subst (λ (k : ℕ). k < marks) number mark-small)
           ∙ ap (λ (k : ℕ). some (kindBy k, openerBy k)) (sym number)
 
-      mean : (p : Pairs) → pairsBy opened m ≡ p → Turned opened (kindBy m) few (kind-small m mark-small) (openerBy m) p
-      mean p e = subst (Turned opened (kindBy m) few (kind-small m mark-small) (openerBy m)) e (pairs-mean opened m few mark-small)
+      mean : (p : Pairs) → pairsBy opened m ≡ p → Means opened (kindBy m) few (kind-small m mark-small) (openerBy m) p
+      mean p e = subst (Means opened (kindBy m) few (kind-small m mark-small) (openerBy m)) e (pairs-mean opened m few mark-small)
 
       pub passed-mark : (opens : ℕ) → pairsBy opened m ≡ Stand opens → Passed tb text opened i opens
       unfolding fits turn

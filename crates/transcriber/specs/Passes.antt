@@ -1,13 +1,12 @@
--- What the inner functions promise: the cells of a sign by its way and its word; the pair rule over bits; what a pass finds; the answer to a
--- normalised text. Assumes nothing.
-use mathlib.Core.Bool.{_&&_, cond}
+-- What the inner functions promise: the cells of a sign by its way and its word; what a pass finds; the answer to a normalised text.
+-- Assumes nothing.
+use mathlib.Core.Bool.{cond}
 use mathlib.Core.List.{List, [], _∷_}
-use Prim.Native.Nat.{ℕ, _+_, _-_, _/_, _%_, _^_}
-use lib.Dec.{eqb, leb, ltb}
+use Prim.Native.Nat.{ℕ}
+use lib.Dec.{eqb, leb}
 use lib.ListN.{length}
 use Rattle.rules.specs.Cells.{Text, Row}
 use Rattle.rules.specs.Sorts.{Table}
-use Rattle.rules.specs.Pairs.{kinds, Opens}
 use Rattle.rules.specs.Places.{lacksSign, breaksPair, outsideForm, sharesCells}
 use Rattle.rules.specs.Rows.{Verdict, good, bad, verdictOf}
 use Rattle.rules.proofs.Rows.{whole-row}
@@ -18,8 +17,6 @@ use Rattle.transcriber.specs.declared.Answer.{Answer}
 use Rattle.transcriber.specs.declared.Answer.the-variants.{Done, NoSign, PairBroken, OutsideForm, SharesCells, NeedsRoom}
 use Rattle.transcriber.specs.declared.Measured.{Measured}
 use Rattle.transcriber.specs.declared.Measured.the-variants.{Cells, Refused}
-use Rattle.transcriber.specs.declared.Pairs.{Pairs}
-use Rattle.transcriber.specs.declared.Pairs.the-variants.{Stand, Broken}
 
 -- by a number: what stands beside it, or else d. What a `match` on a number says.
 abbrev pub choose : {A : Type 0} → List (ℕ × A) → ℕ → A → A
@@ -59,19 +56,6 @@ widths =
 
 unfoldable pub widthBy : ℕ → ℕ
 widthBy w = choose widths w 0
-
--- THE PAIR RULE over bits: how many states there are; is a kind open; what a mark does
-abbrev pub openStates : ℕ
-openStates = 2 ^ kinds
-
-abbrev pub opensOf : ℕ → Opens
-opensOf o k = ltb k kinds && eqb (o / 2 ^ k % 2) 1
-
--- (the mark is 2k + 1 for the opener of kind k, 2k + 2 for its closer)
-unfoldable pub pairsBy : ℕ → ℕ → Pairs
-pairsBy o m =
-    cond (eqb (m % 2) 1) (cond (eqb (o / 2 ^ ((m - 1) / 2) % 2) 1) Broken (Stand (o + 2 ^ ((m - 1) / 2))))
-    (cond (eqb (o / 2 ^ ((m - 1) / 2) % 2) 1) (Stand (o - 2 ^ ((m - 1) / 2))) Broken)
 
 -- THE FIRST PASS
 abbrev pub faults : ℕ → List (ℕ × Answer)

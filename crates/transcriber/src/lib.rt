@@ -4,6 +4,7 @@
 use entries::FREE;
 use entries::UNDER;
 use normal::Normalised;
+use pairs::Pairs;
 use turns::ALL_CAPITALS;
 use turns::BARE;
 use turns::FIRST_DIGIT;
@@ -16,17 +17,16 @@ use turns::QUESTIONS;
 use turns::SEPARATED;
 use turns::WAYS;
 ghost use mathlib.Core.Path.{_≡_};
-ghost use Prim.Native.Nat.{_≤_, _<_};
+ghost use Prim.Native.Nat.{_≤_};
 ghost use lib.ListN.{length};
 ghost use Rattle.rules.specs.Castilian.{castilian};
 ghost use Rattle.rules.specs.Rows.{good, verdictOf};
 ghost use Rattle.rules.specs.Normal.{normalOf};
 ghost use Rattle.rules.specs.Refusals.{longestText};
 ghost use Rattle.rules.proofs.Rows.{whole-row};
-ghost use Rattle.entries.specs.Entries.{marks};
 ghost use Rattle.rows.specs.Laid.{laid};
 ghost use Rattle.transcriber.specs.Promise.{Transcribed};
-ghost use Rattle.transcriber.specs.Passes.{ownBy, cellsBy, widthBy, pairsBy, faultBy, measuredOf, answerOf, outOf, openStates};
+ghost use Rattle.transcriber.specs.Passes.{ownBy, cellsBy, widthBy, faultBy, measuredOf, answerOf, outOf};
 
 // The answer. `Done` has the count of cells written; any other is a refusal, and the lent row is then as it was. Paper 01's number and second
 // number for each are given by `Promise.refusalOf`.
@@ -50,12 +50,6 @@ pub enum Answer {
 pub enum Measured {
     Cells(usize),
     Refused(Answer),
-}
-
-// The pair rule at a mark: which kinds are open after it, a bit for each, or that it may not stand there.
-pub enum Pairs {
-    Stand(usize),
-    Broken,
 }
 
 // "normalised text above 4,096 code points"
@@ -146,27 +140,6 @@ fn width_of(way: usize) -> usize
     }
 }
 
-// "An opener stands only where its kind is closed, a closer only where it is open." The mark is 2k + 1 for the opener of kind k, 2k + 2 for
-// its closer.
-fn pairs_after(opened: usize, mark: usize) -> Pairs
-    requires { ⌜ (opened < openStates) × (0 < mark) × (mark < marks) ⌝ }
-    ensures { λ r. ⌜ r ≡ pairsBy opened mark ⌝ }
-{
-    let kind = (mark - 1) / 2;
-    let bit = 1usize << kind;
-    let is_open = (opened >> kind) % 2 == 1;
-    if mark % 2 == 1 {
-        if is_open {
-            return Pairs::Broken;
-        }
-        return Pairs::Stand(opened + bit);
-    }
-    if is_open {
-        return Pairs::Stand(opened - bit);
-    }
-    Pairs::Broken
-}
-
 // The refusal of a deed that is a fault.
 fn fault_of(deed: usize, place: usize) -> Answer
     ensures { λ r. ⌜ r ≡ faultBy deed place ⌝ }
@@ -191,7 +164,7 @@ fn measure(text: &[u32]) -> Measured
         let entry = entries::entry_of(text[i]);
         let mark = entries::mark_in(entry);
         if mark != 0 {
-            let Pairs::Stand(now_open) = pairs_after(opened, mark) else {
+            let Pairs::Stand(now_open) = pairs::pairs_after(opened, mark) else {
                 return Measured::Refused(Answer::PairBroken(i));
             };
             opened = now_open;

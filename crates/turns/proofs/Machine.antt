@@ -10,14 +10,13 @@ use borrow.Author.Tests.{ne-eqb, lt-ltb}
 use Rattle.rules.specs.Sorts.{Class, aToJ, capital, aStop, aComma, classNumber, _is_, isDigit, isOrdinal}
 use Rattle.rules.specs.Signs.{Way}
 use Rattle.rules.specs.Places.{lacksSign, breaksPair, outsideForm, sharesCells, Outcome, fault, silent, sign}
-use Rattle.rules.proofs.Finite.{every, every2, at2, every3, at3, implies, hold, holds, Hold}
+use Rattle.rules.proofs.Finite.{below, at-below, every, every2, at2, every3, at3, implies, hold, holds, Hold}
 use Rattle.rules.proofs.States.{Past, Future}
 use Rattle.rules.proofs.Enumerations.{pasts, classes, futures, ways}
 use Rattle.rules.proofs.Sides.{caps-next, form-next, digit-next, rule, look, after}
 use Rattle.entries.specs.States as state
 use Rattle.entries.specs.Entries.{classPlaces, thenOf, usualStates, bits}
 use Rattle.turns.specs.Acts as act
-use Rattle.turns.proofs.Places.{below, at-below}
 use Rattle.turns.specs.Deeds.{deeds}
 use Rattle.turns.specs.Stages.{stageAt, deedOf, goesOnUnder, settledBy, wayOf, silentAs, actOf}
 

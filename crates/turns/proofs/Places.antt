@@ -1,26 +1,14 @@
--- Numbers below a bound: a test at each, and the one that is none of the others. Assumes nothing.
-use mathlib.Core.Path.{_≡_, refl, sym, subst, _∙_}
-use mathlib.Core.Bool.{Bool, true, false, _&&_, _||_, true≢false}
+-- Numbers below a bound: the one that is none of the others. Assumes nothing.
+use mathlib.Core.Path.{_≡_, refl, sym, _∙_}
+use mathlib.Core.Bool.{Bool, true, false, _||_, true≢false}
 use mathlib.Core.List.{List, [], _∷_}
 use mathlib.Core.Logic.{⊎-elim}
 use Prim.Native.Nat.{ℕ, zero, suc, _+_, _≤_, _<_}
 use native.Mathlib.Omega.{arith}
-use native.Mathlib.Nat.{not-suc-le-zero}
-use lib.Dec.{T, eqb}
+use lib.Dec.{eqb}
 use borrow.Author.Tests.{eqb-false}
-use Rattle.rules.proofs.Finite.{and-left, and-right, le-or-lt}
+use Rattle.rules.proofs.Finite.{le-or-lt}
 use Rattle.entries.proofs.Keys.{among}
-
--- a test at every number below a bound
-abbrev pub below : (ℕ → Bool) → ℕ → Bool
-below f zero = true
-below f (suc n) = f n && below f n
-
-pub at-below : (f : ℕ → Bool) (n : ℕ) → T (below f n) → (k : ℕ) → k < n → T (f k)
-at-below f zero t k h = absurd (not-suc-le-zero h)
-at-below f (suc n) t k h =
-    ⊎-elim (λ q. at-below f n (and-right (f n) (below f n) t) k q)
-    (λ q. subst (λ (m : ℕ). T (f m)) (omega arith) (and-left (f n) (below f n) t)) (le-or-lt (suc k) n)
 
 -- the numbers below a bound, from 0 on
 abbrev from : ℕ → ℕ → List ℕ

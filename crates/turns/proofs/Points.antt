@@ -10,9 +10,8 @@ use lib.Dec.{T, eqb, leb, ltb, eqb→eq, leb→le, ltb→lt}
 use borrow.Author.Tests.{le-leb, lt-leb, le-ltb, lt-ltb}
 use Rattle.rules.specs.Sorts.{Sort, noSign, Item, Table, Class, unlisted, class}
 use Rattle.rules.specs.Rows.{sortIn}
-use Rattle.rules.proofs.Finite.{and-false, every, and-left, and-right, beq-same}
+use Rattle.rules.proofs.Finite.{and-false, below, at-below, every, and-left, and-right, beq-same}
 use Rattle.entries.proofs.Keys.{among, hit}
-use Rattle.turns.proofs.Places.{below, at-below}
 
 -- a test that all of a list pass
 among-every : (f : ℕ → Bool) (ks : List ℕ) (c : ℕ) → T (every f ks) → among ks c ≡ true → T (f c)

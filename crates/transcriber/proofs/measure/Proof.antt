@@ -25,8 +25,8 @@ use Rattle.entries.proofs.entry_of.Reads as entry-of-reads
 use Rattle.entries.proofs.is_usual.Reads as is-usual-reads
 use Rattle.entries.proofs.mark_in.Reads as mark-in-reads
 use Rattle.entries.proofs.then_in.Reads as then-in-reads
+use Rattle.pairs.proofs.pairs_after.Reads as pairs-after-reads
 use Rattle.transcriber.proofs.fault_of.Reads as fault-of-reads
-use Rattle.transcriber.proofs.pairs_after.Reads as pairs-after-reads
 use Rattle.transcriber.proofs.width_of.Reads as width-of-reads
 use Rattle.turns.proofs.deed_of.Reads as deed-of-reads
 use Rattle.turns.proofs.goes_on_under.Reads as goes-on-under-reads
