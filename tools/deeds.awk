@@ -30,7 +30,7 @@ function close_class(    s) {
 
 /^[ \t]*(#|$)/ { next }
 
-/^state [A-Z_]+ +[^ ]/ {
+/^state [A-Z_0-9]+ +[^ ]/ {
     if (classes) wrong("a state behind the classes")
     if ($2 in is_state) wrong("this state stands above")
     is_state[$2] = 1
@@ -38,7 +38,7 @@ function close_class(    s) {
     next
 }
 
-/^deed [A-Z_]+ +[^ ]/ {
+/^deed [A-Z_0-9]+ +[^ ]/ {
     if ($2 in is_deed) wrong("this deed stands above")
     is_deed[$2] = 1
     next

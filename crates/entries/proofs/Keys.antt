@@ -2,7 +2,7 @@
 -- that is no key has no sign. Assumes nothing.
 use mathlib.Core.Path.{_≡_, refl, sym, ap, _∙_, subst}
 use mathlib.Core.Logic.{_⊎_, inl, inr, ⊎-elim}
-use mathlib.Core.Bool.{Bool, true, false, _||_}
+use mathlib.Core.Bool.{Bool, true, false, _||_, cond, true≢false}
 use mathlib.Core.List.{List, [], _∷_}
 use Prim.Native.Nat.{ℕ}
 use lib.Dec.{T, eqb, eqb→eq}
@@ -11,6 +11,7 @@ use Rattle.rules.specs.Sorts.{Sort, noSign, Item, Table}
 use Rattle.rules.specs.Rows.{sortIn}
 use Rattle.rules.specs.Castilian.{castilian}
 use Rattle.rules.proofs.Finite.{every, and-left, and-right}
+use Rattle.entries.specs.Chosen.{choose}
 use Rattle.entries.specs.Entries.{entryOf, word}
 
 abbrev pub among : List ℕ → ℕ → Bool
@@ -27,6 +28,24 @@ rest-none A [] c r = (r, refl)
 rest-none A (k ∷ ks) c r =
     let i = rest-none (A × (c ≡ k → ⊥)) ks c r in
     (i .0 .0, rw (ne-eqb c k (i .0 .1)) (i .1))
+
+-- what is chosen by a number that is none of the keys is what is left
+module _ {A : Type 0} where
+  abbrev pub keysOf : List (ℕ × A) → List ℕ
+  keysOf [] = []
+  keysOf (e ∷ es) = e .0 ∷ keysOf es
+
+  choose-none : (es : List (ℕ × A)) (n : ℕ) (d : A) → among (keysOf es) n ≡ false → choose es n d ≡ d
+  choose-none [] n d q = refl
+  choose-none (e ∷ es) n d q = go (eqb n (e .0)) q (choose-none es n d)
+    where
+      go : (b : Bool) → b || among (keysOf es) n ≡ false → (among (keysOf es) n ≡ false → choose es n d ≡ d)
+          → cond b (e .1) (choose es n d) ≡ d
+      go true q ih = absurd (true≢false q)
+      go false q ih = ih q
+
+  pub chosen-rest : (es : List (ℕ × A)) (n : ℕ) (d : A) → Rest Unit (keysOf es) n → choose es n d ≡ d
+  chosen-rest es n d r = choose-none es n d (rest-none Unit (keysOf es) n r .1)
 
 -- A test of code point and sort that every entry passes: it holds at c, or c has no sign.
 pub hit : (f : ℕ → Sort → Bool) (tb : Table) → T (every (λ (i : Item). f (i .0) (i .1)) tb) → (c : ℕ) → T (f c (sortIn tb c)) ⊎ (sortIn tb c ≡ noSign)

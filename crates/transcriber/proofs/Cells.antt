@@ -1,7 +1,7 @@
 -- The cells of a word by its count, and of a sign by its way, over plain numbers: what each end of `put_own`, `put_sign` and `width_of` cites.
 -- Assumes nothing.
 use mathlib.Core.Path.{_≡_, refl, sym, ap, _∙_}
-use mathlib.Core.Bool.{Bool, true, false, _||_, cond, true≢false}
+use mathlib.Core.Bool.{Bool, true, false, cond, true≢false}
 use mathlib.Core.List.{List, [], _∷_}
 use mathlib.Core.Logic.{⊎-elim}
 use Prim.Native.Nat.{ℕ}
@@ -11,28 +11,11 @@ use lib.ListN.{length, drop}
 use borrow.Author.Tests.{eqb-true, eqb-false}
 use Rattle.rules.specs.Cells.{Row}
 use Rattle.rules.proofs.Finite.{le-or-lt}
-use Rattle.entries.proofs.Keys.{among, Rest, rest-none}
+use Rattle.entries.specs.Chosen.{choose}
+use Rattle.entries.proofs.Keys.{Rest, keysOf, chosen-rest}
 use Rattle.entries.specs.Entries.{countIn, firstIn, secondIn, thirdIn, lowerIn}
 use Rattle.turns.specs.Acts as act
-use Rattle.transcriber.specs.Passes.{choose, ownBy, waysOf, cellsBy, widths, widthBy}
-
--- what is chosen by a number that is none of the keys is what is left
-module _ {A : Type 0} where
-  abbrev pub keysOf : List (ℕ × A) → List ℕ
-  keysOf [] = []
-  keysOf (e ∷ es) = e .0 ∷ keysOf es
-
-  choose-none : (es : List (ℕ × A)) (n : ℕ) (d : A) → among (keysOf es) n ≡ false → choose es n d ≡ d
-  choose-none [] n d q = refl
-  choose-none (e ∷ es) n d q = go (eqb n (e .0)) q (choose-none es n d)
-    where
-      go : (b : Bool) → b || among (keysOf es) n ≡ false → (among (keysOf es) n ≡ false → choose es n d ≡ d)
-          → cond b (e .1) (choose es n d) ≡ d
-      go true q ih = absurd (true≢false q)
-      go false q ih = ih q
-
-  pub chosen-rest : (es : List (ℕ × A)) (n : ℕ) (d : A) → Rest Unit (keysOf es) n → choose es n d ≡ d
-  chosen-rest es n d r = choose-none es n d (rest-none Unit (keysOf es) n r .1)
+use Rattle.transcriber.specs.Passes.{ownBy, waysOf, cellsBy, widths, widthBy}
 
 abbrev lengths : List (ℕ × Row) → List (ℕ × ℕ)
 lengths [] = []

@@ -10,6 +10,7 @@ use Rattle.rules.specs.Sorts.{Table}
 use Rattle.rules.specs.Places.{lacksSign, breaksPair, outsideForm, sharesCells}
 use Rattle.rules.specs.Rows.{Verdict, good, bad, verdictOf}
 use Rattle.rules.proofs.Rows.{whole-row}
+use Rattle.entries.specs.Chosen.{choose}
 use Rattle.entries.specs.Entries.{countIn, firstIn, secondIn, thirdIn, lowerIn}
 use Rattle.turns.specs.Acts as act
 use Rattle.rows.specs.Laid.{laid}
@@ -17,11 +18,6 @@ use Rattle.transcriber.specs.declared.Answer.{Answer}
 use Rattle.transcriber.specs.declared.Answer.the-variants.{Done, NoSign, PairBroken, OutsideForm, SharesCells, NeedsRoom}
 use Rattle.transcriber.specs.declared.Measured.{Measured}
 use Rattle.transcriber.specs.declared.Measured.the-variants.{Cells, Refused}
-
--- by a number: what stands beside it, or else d. What a `match` on a number says.
-abbrev pub choose : {A : Type 0} → List (ℕ × A) → ℕ → A → A
-choose [] n d = d
-choose (e ∷ es) n d = cond (eqb n (e .0)) (e .1) (choose es n d)
 
 -- THE CELLS of a word by itself, by their count; of a sign, by its way
 abbrev pub counts : ℕ → List (ℕ × Row)

@@ -1,4 +1,3 @@
-pub mod Places
 pub mod Points
 pub mod Ahead
 pub mod Machine

@@ -2,7 +2,7 @@
 use mathlib.Core.Path.{sym}
 use Rattle.transcriber.specs.Passes.{faults, faultBy}
 use Rattle.transcriber.specs.declared.Answer.the-variants.{SharesCells}
-use Rattle.transcriber.proofs.Cells.{chosen-rest}
+use Rattle.entries.proofs.Keys.{chosen-rest}
 use Rattle.transcriber.proofs.fault_of.Statement.{statement}
 use Rattle.transcriber.proofs.fault_of.Tie as tie
 use Rattle.transcriber.proofs.fault_of.Reads as reads

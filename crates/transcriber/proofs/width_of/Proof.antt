@@ -3,7 +3,7 @@ use mathlib.Core.Path.{_≡_, sym}
 use Prim.Native.Nat.{zero-le}
 use native.Mathlib.Omega.{arith}
 use Rattle.transcriber.specs.Passes.{widths, widthBy}
-use Rattle.transcriber.proofs.Cells.{chosen-rest}
+use Rattle.entries.proofs.Keys.{chosen-rest}
 use Rattle.transcriber.proofs.width_of.Statement.{statement}
 use Rattle.transcriber.proofs.width_of.Tie as tie
 

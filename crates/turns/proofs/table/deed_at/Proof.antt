@@ -8,7 +8,7 @@ use lib.ListN.{getD}
 use Rattle.entries.proofs.Keys.{rest-none}
 use Rattle.turns.specs.Acts.{noSign}
 use Rattle.turns.specs.Deeds.{deeds}
-use Rattle.turns.proofs.Places.{upto, only-last}
+use Rattle.entries.proofs.Places.{upto, only-last}
 use Rattle.turns.proofs.table.deed_at.Statement.{statement}
 use Rattle.turns.proofs.table.deed_at.Tie as tie
 

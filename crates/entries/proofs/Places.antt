@@ -26,7 +26,11 @@ among-from (suc n) k c l h = go (eqb c k) refl (λ q. among-from n (suc k) c q (
     go true e ih = refl
     go false e ih = ih (⊎-elim (λ q. absurd (eqb-false c k e (omega (arith, q, l)))) (λ q. q) (le-or-lt c k))
 
--- below n + 1 and none of those below n
-pub only-last : (n c : ℕ) → c < suc n → among (upto n) c ≡ false → c ≡ n
+-- none of those below n
+pub none-below : (n c : ℕ) → among (upto n) c ≡ false → n ≤ c
 unfolding upto
-only-last n c h e = ⊎-elim (λ l. absurd (let z = among-from n 0 c (omega arith) (omega arith) in true≢false (sym z ∙ e))) (λ l. omega arith) (le-or-lt (suc c) n)
+none-below n c e = ⊎-elim (λ l. absurd (let z = among-from n 0 c (omega arith) (omega arith) in true≢false (sym z ∙ e))) (λ l. omega arith) (le-or-lt (suc c) n)
+
+-- and below n + 1
+pub only-last : (n c : ℕ) → c < suc n → among (upto n) c ≡ false → c ≡ n
+only-last n c h e = omega (arith, none-below n c e)

@@ -1,0 +1,121 @@
+#!/bin/sh
+# prints: crates/signs/src/cells.rt
+#
+# The cells as code: the word of each by its fields, and the signs of two cells. They are read from the definitions
+# (tools/sign-list.awk, tools/cell-list.awk), so a new sign is a line of crates/rules/specs/Castilian.antt; the modes in which
+# a class is read as usual are read from tools/readings.txt.
+#
+# Nothing printed is trusted: the prover compares what is read at each cell with the rules.
+set -eu
+CDPATH='' cd "$(dirname "$0")/.."
+
+# Bytes and not characters, so that every awk prints the same.
+LC_ALL=C
+export LC_ALL
+
+cells=$(awk -f tools/sign-list.awk | awk -f tools/cell-list.awk)
+places=$(awk -f tools/deeds.awk tools/readings.txt)
+
+cat <<'TEXT'
+// Printed by tools/print-cells.sh from crates/rules/specs/Castilian.antt and tools/readings.txt: change those, and print it again.
+// What a cell may be: its word, by its fields; and the signs of two cells that begin with a cell that is none by itself. The check compares what
+// is read at each with the rules.
+TEXT
+
+{
+    for name in CAPITAL_AT FIGURE_AT FREE KIND_AT LOWER_AT MIXED NO_POINT POINT_AT THEN_AT USUAL_AT; do echo "use crate::$name;"; done
+    printf '%s\n' "$cells" | awk -F '\t' '$1 != "two" { print "use crate::" $3 ";" }'
+    printf '%s\n' "$places" | awk -F '\t' '$3 == "AS_USUAL" { print "use crate::" $2 ";" }'
+} | sort -u
+
+cat <<'TEXT'
+ghost use mathlib.Core.Path.{_≡_};
+ghost use Rattle.signs.specs.Cells.{wordOf, twoOf};
+
+// The cells, by their dots.
+TEXT
+
+printf '%s\n' "$cells" | awk -F '\t' '
+$1 != "two" { print "pub const D" $2 ": u8 = " $1 ";"; print "" }'
+
+cat <<'TEXT'
+// The bit of a mode.
+TEXT
+printf '%s\n' "$places" | awk -F '\t' '
+$3 == "AS_USUAL" && !($2 in told) {
+    told[$2] = 1
+    print "const IN_" $2 ": u64 = USUAL_AT << " $2 ";"
+    print ""
+}'
+
+cat <<'TEXT'
+// What a class is: its number, the modes in which it is read as usual, and the mode after it then.
+TEXT
+printf '%s\n' "$places" | awk -F '\t' '
+{
+    split($4, name, " ")
+    if (!(name[1] in at)) { class[++classes] = name[1]; at[name[1]] = classes }
+    if ($3 == "AS_USUAL") usual[name[1]] = usual[name[1]] "\n    + IN_" $2
+}
+END {
+    for (i = 1; i <= classes; i++) {
+        c = class[i]
+        if (!(c in usual)) continue
+        print "const AS_" c ": u64 = " c
+        print "    + THEN_AT * " (c ~ /LETTER|B_TO_J/ ? "MIXED" : "FREE") " as u64" usual[c] ";"
+        print ""
+    }
+}'
+
+cat <<'TEXT'
+// The words.
+TEXT
+{ printf '%s\n' "$places" | awk -F '\t' '$3 == "AS_USUAL" { split($4, name, " "); print "usual\t" name[1] }' | sort -u; printf '%s\n' "$cells"; } | awk -F '\t' '
+$1 == "usual" { usual[$2] = 1; next }
+$1 != "two" && $3 != "NOTHING" {
+    word = ($3 in usual ? "AS_" : "") $3
+    if ($4 != "none") word = word " + POINT_AT * " $4
+    if ($5 != "none") word = word " + CAPITAL_AT * " $5
+    if ($6 != "none") word = word " + FIGURE_AT * " $6
+    if ($7 != "none") word = word " + LOWER_AT * " $7
+    if ($8 != "none") word = word " + KIND_AT * " $8
+    print "const W" $2 ": u64 = " word ";" ($9 == "" ? "" : " // " $9)
+    print ""
+}'
+
+cat <<'TEXT'
+// The word of a cell; that of a byte that is none begins no sign.
+pub fn word_of(cell: u8) -> u64
+    ensures { λ r. ⌜ r ≡ wordOf cell ⌝ }
+{
+    match cell {
+TEXT
+printf '%s\n' "$cells" | awk -F '\t' '
+$1 != "two" { print "        D" $2 " => " ($3 == "NOTHING" ? $3 : "W" $2) "," }'
+
+cat <<'TEXT'
+        _ => NOTHING,
+    }
+}
+
+// Two cells as one number.
+const CELL_PLACES: usize = 64;
+
+TEXT
+printf '%s\n' "$cells" | awk -F '\t' '
+$1 == "two" { print "const D" $2 "_" $3 ": usize = D" $2 " as usize * CELL_PLACES + D" $3 " as usize;"; print "" }'
+
+cat <<'TEXT'
+// The sign of two cells, or NO_POINT.
+pub fn two_cells(first: u8, second: u8) -> u32
+    ensures { λ r. ⌜ r ≡ twoOf first second ⌝ }
+{
+    match first as usize * CELL_PLACES + second as usize {
+TEXT
+printf '%s\n' "$cells" | awk -F '\t' '
+$1 == "two" { print "        D" $2 "_" $3 " => " $4 ", // " $5 }'
+cat <<'TEXT'
+        _ => NO_POINT,
+    }
+}
+TEXT
