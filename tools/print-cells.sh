@@ -30,7 +30,7 @@ TEXT
 
 cat <<'TEXT'
 ghost use mathlib.Core.Path.{_≡_};
-ghost use Rattle.signs.specs.Cells.{wordOf, twoOf};
+ghost use Rattle.signs.specs.Words.{wordOf, twoOf};
 
 // The cells, by their dots.
 TEXT

@@ -116,7 +116,7 @@ function print_enumeration(k,    i, tails, x, X, first) {
     }
 
     print ""
-    print x "-back-number : (x : " X ") → getD " x "-list (" x "Number x) " first " ≡ x"
+    print "pub " x "-back-number : (x : " X ") → getD " x "-list (" x "Number x) " first " ≡ x"
     for (i = 1; i <= size[k]; i++) print x "-back-number " member[k, i] " = refl"
 
     print ""

@@ -44,6 +44,16 @@ module _ {A : Type 0} where
       go true q ih = absurd (true≢false q)
       go false q ih = ih q
 
+  -- and what is chosen by a key is the same whatever is left
+  pub chosen-key : (es : List (ℕ × A)) (n : ℕ) (d f : A) → among (keysOf es) n ≡ true → choose es n d ≡ choose es n f
+  chosen-key [] n d f q = absurd (true≢false (sym q))
+  chosen-key (e ∷ es) n d f q = go (eqb n (e .0)) q (chosen-key es n d f)
+    where
+      go : (b : Bool) → b || among (keysOf es) n ≡ true → (among (keysOf es) n ≡ true → choose es n d ≡ choose es n f)
+          → cond b (e .1) (choose es n d) ≡ cond b (e .1) (choose es n f)
+      go true q ih = refl
+      go false q ih = ih q
+
   pub chosen-rest : (es : List (ℕ × A)) (n : ℕ) (d : A) → Rest Unit (keysOf es) n → choose es n d ≡ d
   chosen-rest es n d r = choose-none es n d (rest-none Unit (keysOf es) n r .1)
 

@@ -38,7 +38,7 @@ class-every f a unlisted = a .1 .1 .1 .1 .1 .1 .1 .1 .1 .1 .1 .1 .1 .1 .0
 abbrev pub classes : Finite Class
 classes = record { members = class-list; at = λ f t. class-every f (all f class-list t) }
 
-class-back-number : (x : Class) → getD class-list (classNumber x) aToJ ≡ x
+pub class-back-number : (x : Class) → getD class-list (classNumber x) aToJ ≡ x
 class-back-number aToJ = refl
 class-back-number otherSmall = refl
 class-back-number capital = refl
@@ -94,7 +94,7 @@ wayNumber denominator = 7
 wayNumber ordinalMark = 8
 wayNumber inside = 9
 
-way-back-number : (x : Way) → getD way-list (wayNumber x) bare ≡ x
+pub way-back-number : (x : Way) → getD way-list (wayNumber x) bare ≡ x
 way-back-number bare = refl
 way-back-number oneCapital = refl
 way-back-number allCapitals = refl
@@ -131,7 +131,7 @@ causeNumber breaksPair = 1
 causeNumber outsideForm = 2
 causeNumber sharesCells = 3
 
-cause-back-number : (x : Cause) → getD cause-list (causeNumber x) lacksSign ≡ x
+pub cause-back-number : (x : Cause) → getD cause-list (causeNumber x) lacksSign ≡ x
 cause-back-number lacksSign = refl
 cause-back-number breaksPair = refl
 cause-back-number outsideForm = refl
@@ -186,7 +186,7 @@ pastNumber past-hyphen = 12
 pastNumber past-feminine = 13
 pastNumber past-percent = 14
 
-past-back-number : (x : Past) → getD past-list (pastNumber x) free ≡ x
+pub past-back-number : (x : Past) → getD past-list (pastNumber x) free ≡ x
 past-back-number free = refl
 past-back-number lone = refl
 past-back-number caps = refl
@@ -236,7 +236,7 @@ futureNumber bar-on = 5
 futureNumber stop-on = 6
 futureNumber mark-on = 7
 
-future-back-number : (x : Future) → getD future-list (futureNumber x) rest ≡ x
+pub future-back-number : (x : Future) → getD future-list (futureNumber x) rest ≡ x
 future-back-number rest = refl
 future-back-number caps-on = refl
 future-back-number mixed-on = refl
@@ -297,7 +297,7 @@ modeNumber Dash = 13
 modeNumber Fem = 14
 modeNumber Percent = 15
 
-mode-back-number : (x : Mode) → getD mode-list (modeNumber x) Free ≡ x
+pub mode-back-number : (x : Mode) → getD mode-list (modeNumber x) Free ≡ x
 mode-back-number Free = refl
 mode-back-number Lone = refl
 mode-back-number Owing = refl
@@ -338,7 +338,7 @@ kindNumber a-digit = 0
 kindNumber a-hyphen = 1
 kindNumber a-lower-zero = 2
 
-kind-back-number : (x : Kind) → getD kind-list (kindNumber x) a-digit ≡ x
+pub kind-back-number : (x : Kind) → getD kind-list (kindNumber x) a-digit ≡ x
 kind-back-number a-digit = refl
 kind-back-number a-hyphen = refl
 kind-back-number a-lower-zero = refl

@@ -62,7 +62,7 @@ open-at any x = false
 open-at (wants k) x = unsure k x
 open-at (shuns k) x = unsure k x
 
-sure : (l : Look) (x y : ℕ) → open-at l x ≡ false → sees-two l x y ≡ sees-two l x beyond
+pub sure : (l : Look) (x y : ℕ) → open-at l x ≡ false → sees-two l x y ≡ sees-two l x beyond
 sure any x y e = refl
 sure (wants k) x y e = sure-kind k x y e
 sure (shuns k) x y e = ap not (sure-kind k x y e)

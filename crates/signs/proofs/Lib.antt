@@ -1,0 +1,4 @@
+pub mod Sight
+pub mod Settling
+pub mod Tested
+pub mod Turning

@@ -1,0 +1,30 @@
+-- The signs that are left of a row, from a mode and the open pairs, as the rules' own reader finds them (crates/rules/proofs/Reader.antt, `walk`). Inner
+-- promises only: what is promised to a caller is said with `Reads` and `signsOf` alone. Assumes nothing.
+use mathlib.Core.Bool.{cond}
+use mathlib.Core.List.{List, [], _∷_, map}
+use mathlib.Core.Option.{Option, none, some}
+use Prim.Native.Nat.{ℕ}
+use lib.Dec.{eqb}
+use Rattle.rules.specs.Castilian.{castilian}
+use Rattle.rules.specs.Cells.{Text, Row}
+use Rattle.rules.specs.Signs.{Sign}
+use Rattle.rules.proofs.Pieces.{Piece, sign-of}
+use Rattle.rules.proofs.Reader.{walk, all-pieces}
+use Rattle.pairs.specs.Opened.{opensOf}
+use Rattle.signs.specs.Modes.{modeOf}
+
+abbrev pub signsBy : Option (List Piece) → Option (List Sign)
+signsBy none = none
+signsBy (some ss) = some (map sign-of ss)
+
+abbrev pub left : ℕ → ℕ → Row → Option (List Sign)
+left m o r = signsBy (walk (all-pieces castilian) (modeOf m) (opensOf o) 0 r)
+
+-- one sign more in front
+abbrev pub addSign : Sign → Option (List Sign) → Option (List Sign)
+addSign s none = none
+addSign s (some ss) = some (s ∷ ss)
+
+-- the print of a sign: one code point, or two where `lead` is one that has no cell
+abbrev pub points : ℕ → ℕ → Text
+points lead point = cond (eqb lead 0) (point ∷ []) (lead ∷ point ∷ [])

@@ -1,0 +1,117 @@
+#!/bin/sh
+# prints: crates/signs/specs/Words.antt
+#
+# The word of each cell, and the signs of two cells, as lists which the specifications speak of. They are read from the
+# definitions (tools/sign-list.awk, tools/cell-list.awk). Classes have the names that they have in tools/readings.txt, in
+# camelCase: LETTER_A is `letterA`.
+#
+# Nothing printed is trusted: the prover compares what is read at each cell with the rules.
+set -eu
+CDPATH='' cd "$(dirname "$0")/.."
+
+# Bytes and not characters, so that every awk prints the same.
+LC_ALL=C
+export LC_ALL
+
+cells=$(awk -f tools/sign-list.awk | awk -f tools/cell-list.awk)
+
+places=$(awk -f tools/deeds.awk tools/readings.txt)
+
+# Names in camelCase.
+camel='
+function camel(name,    part, parts, i, made) {
+    parts = split(tolower(name), part, "_")
+    for (i = 1; i <= parts; i++)
+        made = made (i == 1 ? part[i] : toupper(substr(part[i], 1, 1)) substr(part[i], 2))
+    return made
+}
+'
+
+classes=$(printf '%s\n' "$cells" | awk -F '\t' "$camel"'$1 != "two" { print camel($3) }' | sort -u | awk '{ printf "%s%s", NR == 1 ? "" : ", ", $0 }')
+modes=$(printf '%s\n' "$places" | awk -F '\t' "$camel"'$3 == "AS_USUAL" && !told[$2]++ { printf "%s%s", n++ ? ", " : "", camel($2) }')
+
+cat <<TEXT
+-- Printed by tools/print-cell-list.sh from crates/rules/specs/Castilian.antt and tools/readings.txt: change those, and print it again.
+-- The word of each cell by its fields, and the signs of two cells whose first is none by itself. That they are what the rules say is shown by computed tests
+-- (proofs/Settling.antt). Assumes nothing.
+use Prim.Native.Nat.{ℕ, _+_, _*_, _^_}
+use mathlib.Core.List.{List, [], _∷_}
+use lib.ListN.{getD}
+use Rattle.rules.specs.Cells.{dots}
+use Rattle.entries.specs.Chosen.{choose}
+use Rattle.signs.specs.Modes.{$modes}
+use Rattle.signs.specs.Fields.{$classes, pointAt, capitalAt, figureAt, lowerAt, kindAt, thenAt, usualAt}
+
+-- WHAT A CLASS IS: its number, the mode after it where it is read as usual, and the modes in which it is
+TEXT
+
+printf '%s\n' "$places" | awk -F '\t' "$camel"'
+{
+    split($4, name, " ")
+    c = name[1]
+    if (!(c in at)) { class[++classes] = c; at[c] = classes }
+    if ($3 == "AS_USUAL") {
+        before = c in usual ? usual[c] " + " : ""
+        usual[c] = before "2 ^ " camel($2)
+    }
+}
+END {
+    for (i = 1; i <= classes; i++) {
+        c = class[i]
+        if (!(c in usual)) continue
+        print "abbrev as" toupper(substr(camel(c), 1, 1)) substr(camel(c), 2) " : ℕ"
+        print "as" toupper(substr(camel(c), 1, 1)) substr(camel(c), 2) " ="
+        print "    " camel(c) " + thenAt * " (c ~ /LETTER|B_TO_J/ ? "mixed" : "free")
+        print "    + usualAt * (" usual[c] ")"
+        print ""
+    }
+}'
+
+cat <<'TEXT'
+-- THE WORDS, in the order of the cells
+unfoldable pub words : List ℕ
+words =
+TEXT
+
+{ printf '%s\n' "$places" | awk -F '\t' '$3 == "AS_USUAL" { split($4, name, " "); print "usual\t" name[1] }' | sort -u; printf '%s\n' "$cells"; } | awk -F '\t' "$camel"'
+$1 == "usual" { usual[$2] = 1; next }
+$1 == "two" { next }
+{
+    word = camel($3)
+    if ($3 in usual) word = "as" toupper(substr(word, 1, 1)) substr(word, 2)
+    if ($4 != "none") word = word " + pointAt * " $4
+    if ($5 != "none") word = word " + capitalAt * " $5
+    if ($6 != "none") word = word " + figureAt * " $6
+    if ($7 != "none") word = word " + lowerAt * " $7
+    if ($8 != "none") word = word " + kindAt * " $8
+    print "    -- " $2 ($9 == "" ? "" : ": " $9)
+    print "    " (n++ ? "∷ " : "") (word ~ / / ? "(" word ")" : word)
+}
+END { print "    ∷ []" }'
+
+cat <<'TEXT'
+
+-- the word of a byte; one that is no cell begins no sign
+abbrev pub wordOf : ℕ → ℕ
+wordOf c = getD words c 0
+
+-- two cells as one number
+abbrev pub paired : ℕ → ℕ → ℕ
+paired first second = first * 64 + second
+
+unfoldable pub twoCells : List (ℕ × ℕ)
+twoCells =
+TEXT
+
+printf '%s\n' "$cells" | awk -F '\t' '
+$1 == "two" {
+    printf "    %s(paired (dots %s) (dots %s), %s)\n", n++ ? "∷ " : "", $2, $3, $4
+}
+END { print "    ∷ []" }'
+
+cat <<'TEXT'
+
+-- the sign of two cells, or 0
+abbrev pub twoOf : ℕ → ℕ → ℕ
+twoOf first second = choose twoCells (paired first second) 0
+TEXT
