@@ -2,3 +2,4 @@ pub mod Sight
 pub mod Settling
 pub mod Tested
 pub mod Turning
+pub mod Cases

@@ -54,7 +54,7 @@ three-cells (c ∷ []) = (refl, (refl, (refl, tt)))
 three-cells (c ∷ d ∷ []) = (refl, (refl, (refl, tt)))
 three-cells (c ∷ d ∷ e ∷ r) = (refl, (refl, (refl, tt)))
 
-sight-small : (c : ℕ) → cellFrom c < sights
+pub sight-small : (c : ℕ) → cellFrom c < sights
 sight-small c = go (leb c lastCell) refl
   where
     go : (b : Bool) → leb c lastCell ≡ b → cond b c noCell < sights

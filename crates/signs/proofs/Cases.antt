@@ -1,0 +1,332 @@
+-- The ends of the functions, over plain values: what each returns is the reading that its specification says. Assumes nothing.
+use mathlib.Core.Path.{_≡_, refl, sym, _∙_, ap, subst}
+use mathlib.Core.Bool.{Bool, true, false, _&&_, _||_, not, cond}
+use mathlib.Core.List.{List, [], _∷_}
+use mathlib.Core.Logic.{_⊎_, inl, inr, ⊎-elim}
+use Prim.Native.Nat.{ℕ, zero, suc, _+_, _≤_, _<_}
+use Prim.Native.Char.{code}
+use native.Mathlib.Omega.{arith}
+use native.Mathlib.Nat.{not-suc-le-zero, le-of-suc-le-suc}
+use lib.Dec.{T, eqb, leb, ltb, ltb→lt, eqb→eq}
+use lib.ListN.{length, getD, List·getD-eq-default}
+use borrow.Author.Tests.{eq-eqb, ne-eqb, lt-ltb, le-ltb, le-leb, lt-leb}
+use Rattle.rules.specs.Cells.{Row, dots, lastCell}
+use Rattle.rules.specs.Pairs.{kinds}
+use Rattle.rules.proofs.Finite.{below, at-below, and-false, le-or-lt, implies, T-of-eqb}
+use Rattle.rules.proofs.Machine.{at-rest}
+use Rattle.entries.specs.Chosen.{choose}
+use Rattle.entries.proofs.Keys.{among, Rest, keysOf, chosen-rest, rest-none}
+use Rattle.entries.proofs.Places.{upto, none-below}
+use Rattle.pairs.specs.Opened.{isOpen}
+use Rattle.signs.specs.Modes as mode
+use Rattle.signs.specs.Modes.{modeOf, modeCount}
+use Rattle.signs.specs.Acts as act
+use Rattle.signs.specs.Deeds.{deeds}
+use Rattle.signs.specs.Fields.{deedOf, classIn, pointIn, capitalIn, figureIn, lowerIn, kindIn, thenIn, usualIn, noCell, cellOf}
+use Rattle.signs.specs.Words.{words, wordOf, twoOf}
+use Rattle.signs.specs.Readings.{noPoint, Reading, reads, aMark, one, onceList, digitCell, capitalModes, capitalLetter, capitalBy, numberBy, percentBy, innerQuotes, longerBy, prefixBy, askList, askedBy, readingOf, byWord, openerOf, closerOf, markStep, stepOf, stepAt}
+use Rattle.signs.specs.Readings as reading
+use Rattle.signs.specs.declared.Step.{Step}
+use Rattle.signs.specs.declared.Step.the-variants as variant
+use Rattle.signs.proofs.Settling.{is-true}
+use Rattle.signs.proofs.Turning.{sight-small}
+
+-- THE CELL AT A PLACE
+inside-any : (r : Row) (n : ℕ) (a b : ℕ) → n < length r → getD r n a ≡ getD r n b
+inside-any [] n a b l = absurd (not-suc-le-zero l)
+inside-any (c ∷ r) zero a b l = refl
+inside-any (c ∷ r) (suc n) a b l = inside-any r n a b (le-of-suc-le-suc l)
+
+module _ (r : Row) (n : ℕ) where
+  pub cell-low : n < length r → getD r n 0 ≤ lastCell → getD r n 0 ≡ cellOf r n
+  cell-low l h = inside-any r n 0 noCell l ∙ sym (go (inside-any r n 0 noCell l))
+    where
+      go : getD r n 0 ≡ getD r n noCell → cellOf r n ≡ getD r n noCell
+      go e = rw (le-leb (getD r n noCell) lastCell (omega (arith, e, h)))
+
+  pub cell-high : n < length r → lastCell < getD r n 0 → noCell ≡ cellOf r n
+  cell-high l h = sym (go (inside-any r n 0 noCell l))
+    where
+      go : getD r n 0 ≡ getD r n noCell → cellOf r n ≡ noCell
+      go e = rw (lt-leb (getD r n noCell) lastCell (omega (arith, e, h)))
+
+  pub cell-past : length r ≤ n → noCell ≡ cellOf r n
+  cell-past l = sym (rw (List·getD-eq-default r noCell {n = n} l))
+
+  -- the word of a byte is that of the cell there
+  pub word-there : n < length r → wordOf (getD r n 0) ≡ wordOf (cellOf r n)
+  unfolding words
+  word-there l =
+      ⊎-elim (λ h. ap wordOf (cell-low l h))
+      (λ h. List·getD-eq-default words 0 {n = getD r n 0} h ∙ ap wordOf (cell-high l h)) (le-or-lt (getD r n 0) lastCell)
+
+-- the word of a byte that is none of the cells
+pub no-word : (c : ℕ) → Rest Unit (upto 64) c → 0 ≡ wordOf c
+unfolding words
+no-word c r = sym (List·getD-eq-default words 0 {n = c} (none-below 64 c (rest-none Unit (upto 64) c r .1)))
+
+-- THE MODES AT REST
+abbrev pub owes : List ℕ
+owes = mode.owing ∷ mode.whole1 ∷ mode.low ∷ mode.under1 ∷ mode.mid ∷ []
+
+rests-right : T (below (λ m. among owes m || at-rest (modeOf m)) modeCount)
+unfolding at-rest
+rests-right = tt
+
+pub at-rest-there : (m : ℕ) → m < modeCount → Rest Unit owes m → true ≡ at-rest (modeOf m)
+at-rest-there m l r = go (among owes m) (rest-none Unit owes m r .1) (at-below (λ m. among owes m || at-rest (modeOf m)) modeCount rests-right m l)
+  where
+    go : (b : Bool) → b ≡ false → T (b || at-rest (modeOf m)) → true ≡ at-rest (modeOf m)
+    go true e t = absurd (subst T e tt)
+    go false e t = sym (is-true (at-rest (modeOf m)) t)
+
+-- A MARK
+module _ (next o k p : ℕ) where
+  pub closes-it : isOpen o k ≡ true → p ≡ closerOf k → (u : ℕ) → variant.Sign noPoint p next mode.free u ≡ variant.Sign noPoint (cond (isOpen o k) (closerOf k) (openerOf k)) next mode.free u
+  closes-it e q u = rw (e, q)
+
+  pub opens-it : isOpen o k ≡ false → p ≡ openerOf k → (u : ℕ) → variant.Sign noPoint p next mode.free u ≡ variant.Sign noPoint (cond (isOpen o k) (closerOf k) (openerOf k)) next mode.free u
+  opens-it e q u = rw (e, q)
+
+-- a digit's cell
+pub digit-told : (y : ℕ) (f : ℕ) → f ≡ figureIn (wordOf y) → not (eqb f noPoint) ≡ digitCell y
+digit-told y f e = ap (λ (n : ℕ). not (eqb n noPoint)) e
+
+-- AFTER 3456, of the word of the second cell
+module _ (at o w f : ℕ) (e : f ≡ figureIn w) where
+  pub number-figure : (f ≡ noPoint → ⊥) → variant.Sign noPoint f (at + 2) mode.num o ≡ stepOf at o (numberBy w)
+  unfolding numberBy
+  number-figure n = rw (ne-eqb (figureIn w) noPoint (λ q. n (e ∙ q)), e)
+
+  module _ (z : f ≡ noPoint) (l : ℕ) (g : l ≡ lowerIn w) where
+    pub number-lower : (l ≡ noPoint → ⊥) → variant.Sign noPoint l (at + 2) mode.low o ≡ stepOf at o (numberBy w)
+    unfolding numberBy
+    number-lower n = rw (eq-eqb (figureIn w) noPoint (sym e ∙ z), ne-eqb (lowerIn w) noPoint (λ q. n (g ∙ q)), g)
+
+    pub number-none : l ≡ noPoint → variant.Nothing ≡ stepOf at o (numberBy w)
+    unfolding numberBy
+    number-none n = rw (eq-eqb (figureIn w) noPoint (sym e ∙ z), eq-eqb (lowerIn w) noPoint (sym g ∙ n))
+
+-- AFTER 456-356
+module _ (at o z : ℕ) where
+  pub per-mille : z ≡ dots 356 → variant.Sign noPoint (code "‰") (at + 3) mode.free o ≡ stepOf at o (percentBy z)
+  unfolding percentBy
+  per-mille e = rw (eq-eqb z (dots 356) e)
+
+  pub percent-alone : (z ≡ dots 356 → ⊥) → variant.Sign noPoint (code "%") (at + 2) mode.percent o ≡ stepOf at o (percentBy z)
+  unfolding percentBy
+  percent-alone n = rw (ne-eqb z (dots 356) n)
+
+-- AFTER 46
+module _ (at o d y z : ℕ) where
+  module _ (a : y ≡ dots 46) (f : ℕ) (e : f ≡ capitalIn (wordOf z)) where
+    pub run-none : f ≡ noPoint → variant.Nothing ≡ stepOf at o (capitalBy d y z)
+    unfolding capitalBy
+    run-none n = rw (eq-eqb y (dots 46) a, eq-eqb (capitalIn (wordOf z)) noPoint (sym e ∙ n))
+
+    pub run-first : (f ≡ noPoint → ⊥) → d ≡ act.beginsRun → variant.Sign noPoint f (at + 3) mode.whole1 o ≡ stepOf at o (capitalBy d y z)
+    unfolding capitalBy
+    run-first n q = rw (eq-eqb y (dots 46) a, ne-eqb (capitalIn (wordOf z)) noPoint (λ h. n (e ∙ h)), eq-eqb d act.beginsRun q, e)
+
+    pub run-barred : (f ≡ noPoint → ⊥) → (d ≡ act.beginsRun → ⊥) → variant.Nothing ≡ stepOf at o (capitalBy d y z)
+    unfolding capitalBy
+    run-barred n q = rw (eq-eqb y (dots 46) a, ne-eqb (capitalIn (wordOf z)) noPoint (λ h. n (e ∙ h)), ne-eqb d act.beginsRun q)
+
+  module _ (a : y ≡ dots 46 → ⊥) where
+    module _ (b : y ≡ dots 2) where
+      pub greater-owed : d ≡ act.owedCapital → variant.Nothing ≡ stepOf at o (capitalBy d y z)
+      unfolding capitalBy
+      greater-owed q = rw (ne-eqb y (dots 46) a, eq-eqb y (dots 2) b, eq-eqb d act.owedCapital q)
+
+      pub greater : (d ≡ act.owedCapital → ⊥) → variant.Sign noPoint (code ">") (at + 2) mode.free o ≡ stepOf at o (capitalBy d y z)
+      unfolding capitalBy
+      greater q = rw (ne-eqb y (dots 46) a, eq-eqb y (dots 2) b, ne-eqb d act.owedCapital q)
+
+    module _ (b : y ≡ dots 2 → ⊥) (f : ℕ) (e : f ≡ capitalIn (wordOf y)) where
+      pub letter-none : f ≡ noPoint → variant.Nothing ≡ stepOf at o (capitalBy d y z)
+      unfolding capitalBy
+      letter-none n = rw (ne-eqb y (dots 46) a, ne-eqb y (dots 2) b, eq-eqb (capitalIn (wordOf y)) noPoint (sym e ∙ n))
+
+      module _ (n : f ≡ noPoint → ⊥) where
+        by-letter : (x : Reading) → choose (capitalModes f) d (one f 2 mode.owing) ≡ x → stepOf at o x ≡ stepOf at o (capitalBy d y z)
+        unfolding capitalBy
+        by-letter x q =
+            sym
+            (rw (ne-eqb y (dots 46) a, ne-eqb y (dots 2) b, ne-eqb (capitalIn (wordOf y)) noPoint (λ h. n (e ∙ h)))
+            (ap (λ (g : ℕ). stepOf at o (choose (capitalModes g) d (one g 2 mode.owing))) (sym e) ∙ ap (stepOf at o) q))
+
+        pub letter-begins : d ≡ act.beginsRun → variant.Sign noPoint f (at + 2) mode.lone o ≡ stepOf at o (capitalBy d y z)
+        letter-begins q = by-letter (one f 2 mode.lone) (rw q)
+
+        pub letter-mixed : d ≡ act.runGoesOn → variant.Sign noPoint f (at + 2) mode.mixed o ≡ stepOf at o (capitalBy d y z)
+        letter-mixed q = by-letter (one f 2 mode.mixed) (rw q)
+
+        pub letter-barred : d ≡ act.greaterOnly → variant.Nothing ≡ stepOf at o (capitalBy d y z)
+        letter-barred q = by-letter reading.nothing (rw q)
+
+        pub letter-owes : Rest Unit (keysOf (capitalModes f)) d → variant.Sign noPoint f (at + 2) mode.owing o ≡ stepOf at o (capitalBy d y z)
+        letter-owes r = by-letter (one f 2 mode.owing) (chosen-rest (capitalModes f) d (one f 2 mode.owing) r)
+
+-- A LONGER SIGN
+module _ (at o d x y z : ℕ) where
+  pub separated-letter : d ≡ act.separates → (p f : ℕ) → f ≡ figureIn (wordOf y) → (f ≡ noPoint → ⊥) → p ≡ pointIn (wordOf y)
+      → variant.Sign noPoint p (at + 2) mode.mixed o ≡ stepOf at o (prefixBy d x y z)
+  unfolding prefixBy
+  separated-letter q p f e n h = rw (eq-eqb d act.separates q, ne-eqb (figureIn (wordOf y)) noPoint (λ g. n (e ∙ g)), h)
+
+  -- what is known once it is no separated letter
+  abbrev pub Longer : Type 0
+  Longer = (eqb d act.separates && digitCell y) ≡ false
+
+  pub no-digit : (f : ℕ) → f ≡ figureIn (wordOf y) → f ≡ noPoint → Longer
+  no-digit f e n = rw (eq-eqb (figureIn (wordOf y)) noPoint (sym e ∙ n)) (and-false (eqb d act.separates))
+
+  pub no-separator : (d ≡ act.separates → ⊥) → Longer
+  no-separator n = rw (ne-eqb d act.separates n)
+
+  module _ (l : Longer) where
+    pub is-percent : x ≡ dots 456 → y ≡ dots 356 → (s : Step) → s ≡ stepOf at o (percentBy z) → s ≡ stepOf at o (prefixBy d x y z)
+    unfolding prefixBy longerBy
+    is-percent a b s e = e ∙ sym (rw (l, eq-eqb x (dots 456) a, eq-eqb y (dots 356) b))
+
+    -- once it is no % either
+    abbrev pub NoPercent : Type 0
+    NoPercent = (eqb x (dots 456) && eqb y (dots 356)) ≡ false
+
+    module _ (m : NoPercent) where
+      pub is-quote : x ≡ dots 6 → y ≡ dots 236 → (s : Step) → s ≡ markStep (at + 2) o innerQuotes → s ≡ stepOf at o (prefixBy d x y z)
+      unfolding prefixBy longerBy
+      is-quote a b s e = e ∙ sym (rw (l, m, eq-eqb x (dots 6) a, eq-eqb y (dots 236) b))
+
+      abbrev pub NoQuote : Type 0
+      NoQuote = (eqb x (dots 6) && eqb y (dots 236)) ≡ false
+
+      module _ (n : NoQuote) (p : ℕ) (e : p ≡ twoOf x y) where
+        pub two-none : p ≡ noPoint → variant.Nothing ≡ stepOf at o (prefixBy d x y z)
+        unfolding prefixBy longerBy
+        two-none q = rw (l, m, n, eq-eqb (twoOf x y) noPoint (sym e ∙ q))
+
+        pub two-sign : (p ≡ noPoint → ⊥) → variant.Sign noPoint p (at + 2) mode.free o ≡ stepOf at o (prefixBy d x y z)
+        unfolding prefixBy longerBy
+        two-sign q = rw (l, m, n, ne-eqb (twoOf x y) noPoint (λ h. q (e ∙ h)), e)
+
+-- a test of two cells that fails
+pub second-differs : (x y a b : ℕ) → (y ≡ b → ⊥) → (eqb x a && eqb y b) ≡ false
+second-differs x y a b n = rw (ne-eqb y b n) (and-false (eqb x a))
+
+pub first-differs : (x y a b : ℕ) → (x ≡ a → ⊥) → (eqb x a && eqb y b) ≡ false
+first-differs x y a b n = rw (ne-eqb x a n)
+
+-- WHAT THE CELLS THAT FOLLOW DECIDE
+module _ (at o d w x y z : ℕ) where
+  pub point-inside : d ≡ act.point → digitCell y ≡ true → (p : ℕ) → p ≡ pointIn w → variant.Sign noPoint p (at + 1) mode.mid o ≡ stepOf at o (askedBy d w x y z)
+  unfolding askedBy
+  point-inside q e p h = rw (q, e, h)
+
+  pub point-ends : d ≡ act.point → digitCell y ≡ false → (p : ℕ) → p ≡ pointIn w → variant.Sign noPoint p (at + 1) mode.end o ≡ stepOf at o (askedBy d w x y z)
+  unfolding askedBy
+  point-ends q e p h = rw (q, e, h)
+
+  pub one-under : d ≡ act.oneOrFeminine → digitCell y ≡ true → variant.Sign (code "⁄") (code "1") (at + 1) mode.under1 o ≡ stepOf at o (askedBy d w x y z)
+  unfolding askedBy
+  one-under q e = rw (q, e)
+
+  pub feminine-mark : d ≡ act.oneOrFeminine → digitCell y ≡ false → variant.Sign (code ".") (code "ª") (at + 1) mode.fem o ≡ stepOf at o (askedBy d w x y z)
+  unfolding askedBy
+  feminine-mark q e = rw (q, e)
+
+  pub dash-here : d ≡ act.hyphenOrDash → y ≡ dots 36 → variant.Sign noPoint (code "—") (at + 2) mode.dash o ≡ stepOf at o (askedBy d w x y z)
+  unfolding askedBy
+  dash-here q e = rw (q, eq-eqb y (dots 36) e)
+
+  pub hyphen-here : d ≡ act.hyphenOrDash → (y ≡ dots 36 → ⊥) → variant.Sign noPoint (code "-") (at + 1) mode.hyphen o ≡ stepOf at o (askedBy d w x y z)
+  unfolding askedBy
+  hyphen-here q e = rw (q, ne-eqb y (dots 36) e)
+
+  pub dash-again : d ≡ act.dashOnly → y ≡ dots 36 → variant.Sign noPoint (code "—") (at + 2) mode.dash o ≡ stepOf at o (askedBy d w x y z)
+  unfolding askedBy
+  dash-again q e = rw (q, eq-eqb y (dots 36) e)
+
+  pub half-dash : d ≡ act.dashOnly → (y ≡ dots 36 → ⊥) → variant.Nothing ≡ stepOf at o (askedBy d w x y z)
+  unfolding askedBy
+  half-dash q e = rw (q, ne-eqb y (dots 36) e)
+
+  pub number-here : d ≡ act.numberSign → (s : Step) → s ≡ stepOf at o (numberBy (wordOf y)) → s ≡ stepOf at o (askedBy d w x y z)
+  unfolding askedBy
+  number-here q s e = e ∙ sym (rw q)
+
+  pub longer-here : Rest Unit (keysOf (askList w y)) d → d < act.beginsRun → (s : Step) → s ≡ stepOf at o (prefixBy d x y z) → s ≡ stepOf at o (askedBy d w x y z)
+  unfolding askedBy
+  longer-here r l s e =
+      e ∙ sym (ap (stepOf at o) (chosen-rest (askList w y) d (cond (ltb d act.beginsRun) (prefixBy d x y z) (capitalBy d y z)) r)
+      ∙ ap (λ (b : Bool). stepOf at o (cond b (prefixBy d x y z) (capitalBy d y z))) (lt-ltb d act.beginsRun l))
+
+  pub capital-here : Rest Unit (keysOf (askList w y)) d → act.beginsRun ≤ d → (s : Step) → s ≡ stepOf at o (capitalBy d y z) → s ≡ stepOf at o (askedBy d w x y z)
+  unfolding askedBy
+  capital-here r l s e =
+      e ∙ sym (ap (stepOf at o) (chosen-rest (askList w y) d (cond (ltb d act.beginsRun) (prefixBy d x y z) (capitalBy d y z)) r)
+      ∙ ap (λ (b : Bool). stepOf at o (cond b (prefixBy d x y z) (capitalBy d y z))) (le-ltb d act.beginsRun l))
+
+-- THE STEP AT A PLACE, w being the word of the cell there
+module _ (row : Row) (at m o w : ℕ) (e : w ≡ wordOf (cellOf row at)) where
+  by-word : stepOf at o (byWord m w (cellOf row at) (cellOf row (at + 1)) (cellOf row (at + 2))) ≡ stepAt row at m o
+  unfolding stepAt readingOf
+  by-word = ap (λ (v : ℕ). stepOf at o (byWord m v (cellOf row at) (cellOf row (at + 1)) (cellOf row (at + 2)))) e
+
+  pub as-usual : usualIn w m ≡ true → (p t : ℕ) → p ≡ pointIn w → t ≡ thenIn w → variant.Sign noPoint p (at + 1) t o ≡ stepAt row at m o
+  unfolding byWord
+  as-usual u p t a b = sym (rw (u, ← a, ← b)) ∙ by-word
+
+  module _ (u : usualIn w m ≡ false) (d : ℕ) (told : d ≡ deedOf m (classIn w)) where
+    by-deed : (v : Reading) → choose (onceList w) d (askedBy d w (cellOf row at) (cellOf row (at + 1)) (cellOf row (at + 2))) ≡ v → stepOf at o v ≡ stepAt row at m o
+    unfolding byWord
+    by-deed v q =
+        ap (stepOf at o) (sym q)
+        ∙ ap (λ (n : ℕ). stepOf at o (choose (onceList w) n (askedBy n w (cellOf row at) (cellOf row (at + 1)) (cellOf row (at + 2))))) told
+        ∙ sym (rw u) ∙ by-word
+
+    pub told-none : d ≡ act.noSign → variant.Nothing ≡ stepAt row at m o
+    told-none q = by-deed reading.nothing (rw q)
+
+    pub told-digit : d ≡ act.digit → (p : ℕ) → p ≡ figureIn w → variant.Sign noPoint p (at + 1) mode.num o ≡ stepAt row at m o
+    told-digit q p h = ap (λ (n : ℕ). variant.Sign noPoint n (at + 1) mode.num o) h ∙ by-deed (one (figureIn w) 1 mode.num) (rw q)
+
+    pub told-under : d ≡ act.digitUnder → (p : ℕ) → p ≡ figureIn w → variant.Sign noPoint p (at + 1) mode.under o ≡ stepAt row at m o
+    told-under q p h = ap (λ (n : ℕ). variant.Sign noPoint n (at + 1) mode.under o) h ∙ by-deed (one (figureIn w) 1 mode.under) (rw q)
+
+    pub told-capital : d ≡ act.capitalOfMany → (p : ℕ) → p ≡ capitalIn w → variant.Sign noPoint p (at + 1) mode.whole2 o ≡ stepAt row at m o
+    told-capital q p h = ap (λ (n : ℕ). variant.Sign noPoint n (at + 1) mode.whole2 o) h ∙ by-deed (one (capitalIn w) 1 mode.whole2) (rw q)
+
+    pub told-lower : d ≡ act.lowerDigit → (p : ℕ) → p ≡ lowerIn w → variant.Sign noPoint p (at + 1) mode.low o ≡ stepAt row at m o
+    told-lower q p h = ap (λ (n : ℕ). variant.Sign noPoint n (at + 1) mode.low o) h ∙ by-deed (one (lowerIn w) 1 mode.low) (rw q)
+
+    pub told-denominator : d ≡ act.denominator → (p : ℕ) → p ≡ figureIn w → variant.Sign (code "⁄") p (at + 1) mode.under o ≡ stepAt row at m o
+    told-denominator q p h = ap (λ (n : ℕ). variant.Sign (code "⁄") n (at + 1) mode.under o) h ∙ by-deed (reads (code "⁄") (figureIn w) 1 mode.under) (rw q)
+
+    pub told-masculine : d ≡ act.masculineMark → variant.Sign (code ".") (code "º") (at + 1) mode.free o ≡ stepAt row at m o
+    told-masculine q = by-deed (reads (code ".") (code "º") 1 mode.free) (rw q)
+
+    pub told-mark : d ≡ act.mark → (k : ℕ) → k ≡ kindIn w → markStep (at + 1) o k ≡ stepAt row at m o
+    told-mark q k h = ap (markStep (at + 1) o) h ∙ by-deed (aMark (kindIn w) 1) (rw q)
+
+    pub told-question : Rest Unit (keysOf (onceList w)) d → (s : Step)
+        → s ≡ stepOf at o (askedBy d w (cellOf row at) (cellOf row (at + 1)) (cellOf row (at + 2))) → s ≡ stepAt row at m o
+    told-question r s h =
+        h ∙ by-deed (askedBy d w (cellOf row at) (cellOf row (at + 1)) (cellOf row (at + 2)))
+        (chosen-rest (onceList w) d (askedBy d w (cellOf row at) (cellOf row (at + 1)) (cellOf row (at + 2))) r)
+
+-- where the table says that a cell is a mark, its kind is one that is counted
+marks-right : T (below (λ x. below (λ m. not (eqb (deedOf m (classIn (wordOf x))) act.mark) || ltb (kindIn (wordOf x)) kinds) modeCount) 65)
+unfolding deeds words
+marks-right = tt
+
+pub kind-known : (row : Row) (at m w d k : ℕ) → m < modeCount → w ≡ wordOf (cellOf row at) → d ≡ deedOf m (classIn w) → d ≡ act.mark → k ≡ kindIn w → k < kinds
+kind-known row at m w d k l e told q h =
+    let x : ℕ = cellOf row at in
+    let t = at-below (λ m. not (eqb (deedOf m (classIn (wordOf x))) act.mark) || ltb (kindIn (wordOf x)) kinds) modeCount
+    (at-below (λ x. below (λ m. not (eqb (deedOf m (classIn (wordOf x))) act.mark) || ltb (kindIn (wordOf x)) kinds) modeCount) 65 marks-right x (sight-small (getD row at noCell))) m l in
+    let f : deedOf m (classIn (wordOf x)) ≡ act.mark = ap (λ (v : ℕ). deedOf m (classIn v)) (sym e) ∙ sym told ∙ q in
+    let g : kindIn (wordOf x) < kinds =
+    ltb→lt (kindIn (wordOf x)) kinds
+    (implies (eqb (deedOf m (classIn (wordOf x))) act.mark) (ltb (kindIn (wordOf x)) kinds) (T-of-eqb (deedOf m (classIn (wordOf x))) f) t) in
+    omega (arith, g, h, ap kindIn e)
