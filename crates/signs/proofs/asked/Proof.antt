@@ -1,3 +1,10 @@
+-- `asked`: each question, by the cells that follow. Assumes nothing.
+use mathlib.Core.Path.{_≡_, sym, ap, _∙_}
+use Prim.Native.Nat.{ℕ, _+_}
+use Rattle.rules.specs.Cells.{dots}
+use Rattle.signs.specs.Fields.{cellOf}
+use Rattle.signs.specs.Readings.{digitCell}
+use Rattle.signs.proofs.Cases.{point-inside, point-ends, one-under, feminine-mark, dash-here, hyphen-here, dash-again, half-dash, number-here, longer-here, capital-here}
 use borrow.Author.Needs.{needs}
 use Rattle.signs.proofs.asked.Statement.{statement}
 use Rattle.signs.proofs.asked.Tie as tie
@@ -11,157 +18,167 @@ use Rattle.signs.proofs.point_in.Reads as point-in-reads
 use Rattle.signs.proofs.prefixed.Reads as prefixed-reads
 use Rattle.signs.proofs.sign.Reads as sign-reads
 
--- src/lib.rt:442:38
+-- the cells in view
+abbrev X : tie.Start → ℕ
+X s = cellOf (s .args .row .now) (s .args .at)
+
+abbrev Y : tie.Start → ℕ
+Y s = cellOf (s .args .row .now) (s .args .at + 1)
+
+abbrev Z : tie.Start → ℕ
+Z s = cellOf (s .args .row .now) (s .args .at + 2)
+
 add-cell-at : tie.Need-add-cell-at
 add-cell-at c = search needs
 
--- src/lib.rt:442:25
 cell-at-requires : tie.Need-cell-at-requires
 cell-at-requires c κs = search needs
 
--- src/lib.rt:442:16
 is-digit-requires : tie.Need-is-digit-requires
 is-digit-requires c κs = search needs
 
--- src/lib.rt:443:22
 point-in-requires : tie.Need-point-in-requires
 point-in-requires c κs = search needs
 
--- src/lib.rt:443:38
 add-sign : tie.Need-add-sign
 add-sign c = search needs
 
--- src/lib.rt:443:17
 sign-requires : tie.Need-sign-requires
 sign-requires c κs = search needs
 
--- src/lib.rt:445:22
 point-in-requires-2 : tie.Need-point-in-requires-2
 point-in-requires-2 c κs = search needs
 
--- src/lib.rt:445:38
 add-sign-2 : tie.Need-add-sign-2
 add-sign-2 c = search needs
 
--- src/lib.rt:445:17
 sign-requires-2 : tie.Need-sign-requires-2
 sign-requires-2 c κs = search needs
 
--- src/lib.rt:449:38
 add-cell-at-2 : tie.Need-add-cell-at-2
 add-cell-at-2 c = search needs
 
--- src/lib.rt:449:25
 cell-at-requires-2 : tie.Need-cell-at-requires-2
 cell-at-requires-2 c κs = search needs
 
--- src/lib.rt:449:16
 is-digit-requires-2 : tie.Need-is-digit-requires-2
 is-digit-requires-2 c κs = search needs
 
--- src/lib.rt:453:27
 add-t19 : tie.Need-add-t19
 add-t19 c = search needs
 
--- src/lib.rt:461:27
 add-t20 : tie.Need-add-t20
 add-t20 c = search needs
 
--- src/lib.rt:468:29
 add-cell-at-3 : tie.Need-add-cell-at-3
 add-cell-at-3 c = search needs
 
--- src/lib.rt:468:16
 cell-at-requires-3 : tie.Need-cell-at-requires-3
 cell-at-requires-3 c κs = search needs
 
--- src/lib.rt:469:32
 add-sign-3 : tie.Need-add-sign-3
 add-sign-3 c = search needs
 
--- src/lib.rt:469:17
 sign-requires-3 : tie.Need-sign-requires-3
 sign-requires-3 c κs = search needs
 
--- src/lib.rt:471:34
 add-sign-4 : tie.Need-add-sign-4
 add-sign-4 c = search needs
 
--- src/lib.rt:471:17
 sign-requires-4 : tie.Need-sign-requires-4
 sign-requires-4 c κs = search needs
 
--- src/lib.rt:475:29
 add-cell-at-4 : tie.Need-add-cell-at-4
 add-cell-at-4 c = search needs
 
--- src/lib.rt:475:16
 cell-at-requires-4 : tie.Need-cell-at-requires-4
 cell-at-requires-4 c κs = search needs
 
--- src/lib.rt:476:32
 add-sign-5 : tie.Need-add-sign-5
 add-sign-5 c = search needs
 
--- src/lib.rt:476:17
 sign-requires-5 : tie.Need-sign-requires-5
 sign-requires-5 c κs = search needs
 
--- src/lib.rt:481:24
 number-requires : tie.Need-number-requires
 number-requires c κs = search needs
 
--- src/lib.rt:484:17
 prefixed-requires : tie.Need-prefixed-requires
 prefixed-requires c κs = search needs
 
--- src/lib.rt:486:17
 capital-requires : tie.Need-capital-requires
 capital-requires c κs = search needs
 
--- src/lib.rt:436:1
 returns : tie.Need-returns
-returns c = ?
+returns c =
+    let p = c .before in
+    let k = p .before .before in
+    let s = k .before .before .before .before in
+    c .sign .ensures ∙ point-inside (s .args .at) (s .args .opened) (s .args .deed) (s .args .word) (X s) (Y s) (Z s) (k .before .before .match .keys1) (sym (k .is-digit .ensures ∙ ap digitCell (k .before .cell-at .ensures)) ∙ p .before .if1 .taken) (p .point-in .result) (p .point-in .ensures)
 
--- src/lib.rt:436:1
 returns-2 : tie.Need-returns-2
-returns-2 c = ?
+returns-2 c =
+    let p = c .before in
+    let k = p .before .before in
+    let s = k .before .before .before .before in
+    c .sign2 .ensures ∙ point-ends (s .args .at) (s .args .opened) (s .args .deed) (s .args .word) (X s) (Y s) (Z s) (k .before .before .match .keys1) (sym (k .is-digit .ensures ∙ ap digitCell (k .before .cell-at .ensures)) ∙ p .before .if1 .left) (p .point-in2 .result) (p .point-in2 .ensures)
 
--- src/lib.rt:436:1
 returns-3 : tie.Need-returns-3
-returns-3 c = ?
+returns-3 c =
+    let k = c .before in
+    let s = k .before .before .before .before in
+    one-under (s .args .at) (s .args .opened) (s .args .deed) (s .args .word) (X s) (Y s) (Z s) (k .before .before .match .keys2) (sym (k .is-digit2 .ensures ∙ ap digitCell (k .before .cell-at2 .ensures)) ∙ c .if2 .taken)
 
--- src/lib.rt:436:1
 returns-4 : tie.Need-returns-4
-returns-4 c = ?
+returns-4 c =
+    let k = c .before in
+    let s = k .before .before .before .before in
+    feminine-mark (s .args .at) (s .args .opened) (s .args .deed) (s .args .word) (X s) (Y s) (Z s) (k .before .before .match .keys2) (sym (k .is-digit2 .ensures ∙ ap digitCell (k .before .cell-at2 .ensures)) ∙ c .if2 .left)
 
--- src/lib.rt:436:1
 returns-5 : tie.Need-returns-5
-returns-5 c = ?
+unfolding dots
+returns-5 c =
+    let k = c .before .before in
+    let s = k .before .before .before in
+    c .sign3 .ensures ∙ dash-here (s .args .at) (s .args .opened) (s .args .deed) (s .args .word) (X s) (Y s) (Z s) (k .before .match .keys3) (sym (k .cell-at3 .ensures) ∙ c .before .if3 .taken)
 
--- src/lib.rt:436:1
 returns-6 : tie.Need-returns-6
-returns-6 c = ?
+unfolding dots
+returns-6 c =
+    let k = c .before .before in
+    let s = k .before .before .before in
+    c .sign4 .ensures ∙ hyphen-here (s .args .at) (s .args .opened) (s .args .deed) (s .args .word) (X s) (Y s) (Z s) (k .before .match .keys3) (λ e. c .before .if3 .left (k .cell-at3 .ensures ∙ e))
 
--- src/lib.rt:436:1
 returns-7 : tie.Need-returns-7
-returns-7 c = ?
+unfolding dots
+returns-7 c =
+    let k = c .before .before in
+    let s = k .before .before .before in
+    c .sign5 .ensures ∙ dash-again (s .args .at) (s .args .opened) (s .args .deed) (s .args .word) (X s) (Y s) (Z s) (k .before .match .keys4) (sym (k .cell-at4 .ensures) ∙ c .before .if4 .taken)
 
--- src/lib.rt:436:1
 returns-8 : tie.Need-returns-8
-returns-8 c = ?
+unfolding dots
+returns-8 c =
+    let k = c .before in
+    let s = k .before .before .before in
+    half-dash (s .args .at) (s .args .opened) (s .args .deed) (s .args .word) (X s) (Y s) (Z s) (k .before .match .keys4) (λ e. c .if4 .left (k .cell-at4 .ensures ∙ e))
 
--- src/lib.rt:436:1
 returns-9 : tie.Need-returns-9
-returns-9 c = ?
+returns-9 c =
+    let s = c .before .before .before in
+    number-here (s .args .at) (s .args .opened) (s .args .deed) (s .args .word) (X s) (Y s) (Z s) (c .before .match .keys5) (c .number .result) (c .number .ensures)
 
--- src/lib.rt:436:1
 returns-10 : tie.Need-returns-10
-returns-10 c = ?
+returns-10 c =
+    let k = c .before .before in
+    let s = k .before .before in
+    longer-here (s .args .at) (s .args .opened) (s .args .deed) (s .args .word) (X s) (Y s) (Z s) (k .match .rest) (c .before .if5 .taken) (c .prefixed .result) (c .prefixed .ensures)
 
--- src/lib.rt:436:1
 returns-11 : tie.Need-returns-11
-returns-11 c = ?
+returns-11 c =
+    let k = c .before .before in
+    let s = k .before .before in
+    capital-here (s .args .at) (s .args .opened) (s .args .deed) (s .args .word) (X s) (Y s) (Z s) (k .match .rest) (c .before .if5 .left) (c .capital .result) (c .capital .ensures)
 
 pub asked-spec : {M : Type 1} → statement M
 asked-spec =

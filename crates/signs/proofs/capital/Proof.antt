@@ -1,3 +1,10 @@
+-- `capital`: after 46, 46 again, 2, or a letter. Assumes nothing.
+use mathlib.Core.Path.{_≡_, sym, ap, _∙_}
+use Prim.Native.Nat.{ℕ, _+_}
+use Rattle.rules.specs.Cells.{dots}
+use Rattle.signs.specs.Fields.{capitalIn, cellOf}
+use Rattle.signs.specs.Words.{wordOf}
+use Rattle.signs.proofs.Cases.{run-none, run-first, run-barred, greater-owed, greater, letter-none, letter-begins, letter-mixed, letter-barred, letter-owes}
 use borrow.Author.Needs.{needs}
 use Rattle.signs.proofs.capital.Statement.{statement}
 use Rattle.signs.proofs.capital.Tie as tie
@@ -8,117 +15,174 @@ use Rattle.signs.proofs.cell_at.Reads as cell-at-reads
 use Rattle.signs.proofs.cells.word_of.Reads as word-of-reads
 use Rattle.signs.proofs.sign.Reads as sign-reads
 
--- src/lib.rt:348:31
+-- the second cell and the third
+abbrev Y : tie.Start → ℕ
+Y s = cellOf (s .args .row .now) (s .args .at + 1)
+
+abbrev Z : tie.Start → ℕ
+Z s = cellOf (s .args .row .now) (s .args .at + 2)
+
+-- after 46-46, once the letter is known
+abbrev R : Type 0
+R = tie.After-capital-in
+
+abbrev of-run : R → tie.Start
+of-run k = k .before .before .before .before .before .before
+
+again : (k : R) → Y (of-run k) ≡ dots 46
+unfolding dots
+again k = sym (k .before .before .before .before .cell-at .ensures) ∙ k .before .before .before .if1 .taken
+
+first-is : (k : R) → k .capital-in .result ≡ capitalIn (wordOf (Z (of-run k)))
+first-is k = k .capital-in .ensures ∙ ap capitalIn (k .before .word-of .ensures ∙ ap wordOf (k .before .before .cell-at2 .ensures))
+
+-- no second 46
+abbrev N : Type 0
+N = tie.Else1
+
+abbrev of-one : N → tie.Start
+of-one e = e .before .before .before
+
+not-again : (e : N) → Y (of-one e) ≡ dots 46 → ⊥
+unfolding dots
+not-again e q = e .if1 .left (e .before .cell-at .ensures ∙ q)
+
+-- once the letter after one 46 is known
+abbrev L : Type 0
+L = tie.After-capital-in2
+
+abbrev of-letter : L → tie.Start
+of-letter k = of-one (k .before .before .before)
+
+no-greater : (k : L) → Y (of-letter k) ≡ dots 2 → ⊥
+unfolding dots
+no-greater k q = k .before .before .if4 .left (k .before .before .before .before .cell-at .ensures ∙ q)
+
+letter-is : (k : L) → k .capital-in2 .result ≡ capitalIn (wordOf (Y (of-letter k)))
+letter-is k = k .capital-in2 .ensures ∙ ap capitalIn (k .before .word-of2 .ensures ∙ ap wordOf (k .before .before .before .before .cell-at .ensures))
+
+greater-is : (k : tie.Then4) → Y (of-one (k .before)) ≡ dots 2
+unfolding dots
+greater-is k = sym (k .before .before .cell-at .ensures) ∙ k .if4 .taken
+
 add-cell-at : tie.Need-add-cell-at
 add-cell-at c = search needs
 
--- src/lib.rt:348:9
 cell-at-requires : tie.Need-cell-at-requires
 cell-at-requires c κs = search needs
 
--- src/lib.rt:350:60
 add-cell-at-2 : tie.Need-add-cell-at-2
 add-cell-at-2 c = search needs
 
--- src/lib.rt:350:47
 cell-at-requires-2 : tie.Need-cell-at-requires-2
 cell-at-requires-2 c κs = search needs
 
--- src/lib.rt:350:32
 word-of-requires : tie.Need-word-of-requires
 word-of-requires c κs = search needs
 
--- src/lib.rt:350:13
 capital-in-requires : tie.Need-capital-in-requires
 capital-in-requires c κs = search needs
 
--- src/lib.rt:352:13
 returns : tie.Need-returns
-returns c = ?
+returns c =
+    let k = c .before in
+    let s = of-run k in
+    run-none (s .args .at) (s .args .opened) (s .args .deed) (Y s) (Z s) (again k) (k .capital-in .result) (first-is k) (c .if2 .taken)
 
--- src/lib.rt:355:32
 add-sign : tie.Need-add-sign
 add-sign c = search needs
 
--- src/lib.rt:355:13
 sign-requires : tie.Need-sign-requires
 sign-requires c κs = search needs
 
--- src/lib.rt:355:13
 returns-2 : tie.Need-returns-2
-returns-2 c = ?
+returns-2 c =
+    let k = c .before .before .before in
+    let s = of-run k in
+    c .sign .ensures
+    ∙ run-first (s .args .at) (s .args .opened) (s .args .deed) (Y s) (Z s) (again k) (k .capital-in .result) (first-is k) (c .before .before .if2 .left) (c .before .if3 .taken)
 
--- src/lib.rt:357:9
 returns-3 : tie.Need-returns-3
-returns-3 c = ?
+returns-3 c =
+    let k = c .before .before in
+    let s = of-run k in
+    run-barred (s .args .at) (s .args .opened) (s .args .deed) (Y s) (Z s) (again k) (k .capital-in .result) (first-is k) (c .before .if2 .left) (c .if3 .left)
 
--- src/lib.rt:361:13
 returns-4 : tie.Need-returns-4
-returns-4 c = ?
+returns-4 c =
+    let e = c .before .before in
+    let s = of-one e in
+    greater-owed (s .args .at) (s .args .opened) (s .args .deed) (Y s) (Z s) (not-again e) (greater-is (c .before)) (c .if5 .taken)
 
--- src/lib.rt:363:30
 add-sign-2 : tie.Need-add-sign-2
 add-sign-2 c = search needs
 
--- src/lib.rt:363:9
 sign-requires-2 : tie.Need-sign-requires-2
 sign-requires-2 c κs = search needs
 
--- src/lib.rt:363:9
 returns-5 : tie.Need-returns-5
-returns-5 c = ?
+returns-5 c =
+    let e = c .before .before .before in
+    let s = of-one e in
+    c .sign2 .ensures
+    ∙ greater (s .args .at) (s .args .opened) (s .args .deed) (Y s) (Z s) (not-again e) (greater-is (c .before .before)) (c .before .if5 .left)
 
--- src/lib.rt:365:29
 word-of-requires-2 : tie.Need-word-of-requires-2
 word-of-requires-2 c κs = search needs
 
--- src/lib.rt:365:9
 capital-in-requires-2 : tie.Need-capital-in-requires-2
 capital-in-requires-2 c κs = search needs
 
--- src/lib.rt:367:9
 returns-6 : tie.Need-returns-6
-returns-6 c = ?
+returns-6 c =
+    let k = c .before in
+    let s = of-letter k in
+    letter-none (s .args .at) (s .args .opened) (s .args .deed) (Y s) (Z s) (not-again (k .before .before .before)) (no-greater k) (k .capital-in2 .result) (letter-is k) (c .if6 .taken)
 
--- src/lib.rt:370:36
 add-sign-3 : tie.Need-add-sign-3
 add-sign-3 c = search needs
 
--- src/lib.rt:370:23
 sign-requires-3 : tie.Need-sign-requires-3
 sign-requires-3 c κs = search needs
 
--- src/lib.rt:371:37
 add-sign-4 : tie.Need-add-sign-4
 add-sign-4 c = search needs
 
--- src/lib.rt:371:24
 sign-requires-4 : tie.Need-sign-requires-4
 sign-requires-4 c κs = search needs
 
--- src/lib.rt:373:27
 add-sign-5 : tie.Need-add-sign-5
 add-sign-5 c = search needs
 
--- src/lib.rt:373:14
 sign-requires-5 : tie.Need-sign-requires-5
 sign-requires-5 c κs = search needs
 
--- src/lib.rt:344:1
 returns-7 : tie.Need-returns-7
-returns-7 c = ?
+returns-7 c =
+    let k = c .before .before .before in
+    let s = of-letter k in
+    c .sign3 .ensures
+    ∙ letter-begins (s .args .at) (s .args .opened) (s .args .deed) (Y s) (Z s) (not-again (k .before .before .before)) (no-greater k) (k .capital-in2 .result) (letter-is k) (c .before .before .if6 .left) (c .before .match .keys1)
 
--- src/lib.rt:344:1
 returns-8 : tie.Need-returns-8
-returns-8 c = ?
+returns-8 c =
+    let k = c .before .before .before in
+    let s = of-letter k in
+    c .sign4 .ensures
+    ∙ letter-mixed (s .args .at) (s .args .opened) (s .args .deed) (Y s) (Z s) (not-again (k .before .before .before)) (no-greater k) (k .capital-in2 .result) (letter-is k) (c .before .before .if6 .left) (c .before .match .keys2)
 
--- src/lib.rt:344:1
 returns-9 : tie.Need-returns-9
-returns-9 c = ?
+returns-9 c =
+    let k = c .before .before in
+    let s = of-letter k in
+    letter-barred (s .args .at) (s .args .opened) (s .args .deed) (Y s) (Z s) (not-again (k .before .before .before)) (no-greater k) (k .capital-in2 .result) (letter-is k) (c .before .if6 .left) (c .match .keys3)
 
--- src/lib.rt:344:1
 returns-10 : tie.Need-returns-10
-returns-10 c = ?
+returns-10 c =
+    let k = c .before .before .before in
+    let s = of-letter k in
+    c .sign5 .ensures
+    ∙ letter-owes (s .args .at) (s .args .opened) (s .args .deed) (Y s) (Z s) (not-again (k .before .before .before)) (no-greater k) (k .capital-in2 .result) (letter-is k) (c .before .before .if6 .left) (c .before .match .rest)
 
 pub capital-spec : {M : Type 1} → statement M
 capital-spec =

@@ -1,3 +1,9 @@
+-- `number`: a digit, a lower digit, or neither after 3456. Assumes nothing.
+use mathlib.Core.Path.{_≡_, sym, ap, _∙_}
+use Prim.Native.Nat.{ℕ, _+_}
+use Rattle.signs.specs.Fields.{figureIn, lowerIn, cellOf}
+use Rattle.signs.specs.Words.{wordOf}
+use Rattle.signs.proofs.Cases.{number-figure, number-lower, number-none}
 use borrow.Author.Needs.{needs}
 use Rattle.signs.proofs.number.Statement.{statement}
 use Rattle.signs.proofs.number.Tie as tie
@@ -9,53 +15,68 @@ use Rattle.signs.proofs.figure_in.Reads as figure-in-reads
 use Rattle.signs.proofs.lower_in.Reads as lower-in-reads
 use Rattle.signs.proofs.sign.Reads as sign-reads
 
--- src/lib.rt:382:44
+-- once the digit of the second cell is known
+abbrev K : Type 0
+K = tie.After-figure-in
+
+abbrev second : K → ℕ
+second k = wordOf (cellOf (k .before .before .before .before .args .row .now) (k .before .before .before .before .args .at + 1))
+
+word-is : (k : K) → k .before .word-of .result ≡ second k
+word-is k = k .before .word-of .ensures ∙ ap wordOf (k .before .before .cell-at .ensures)
+
+figure-is : (k : K) → k .figure-in .result ≡ figureIn (second k)
+figure-is k = k .figure-in .ensures ∙ ap figureIn (word-is k)
+
 add-cell-at : tie.Need-add-cell-at
 add-cell-at c = search needs
 
--- src/lib.rt:382:31
 cell-at-requires : tie.Need-cell-at-requires
 cell-at-requires c κs = search needs
 
--- src/lib.rt:382:9
 word-of-requires : tie.Need-word-of-requires
 word-of-requires c κs = search needs
 
--- src/lib.rt:383:9
 figure-in-requires : tie.Need-figure-in-requires
 figure-in-requires c κs = search needs
 
--- src/lib.rt:385:29
 add-sign : tie.Need-add-sign
 add-sign c = search needs
 
--- src/lib.rt:385:9
 sign-requires : tie.Need-sign-requires
 sign-requires c κs = search needs
 
--- src/lib.rt:385:9
 returns : tie.Need-returns
-returns c = ?
+returns c =
+    let k = c .before .before in
+    let s = k .before .before .before .before in
+    c .sign .ensures ∙ number-figure (s .args .at) (s .args .opened) (second k) (k .figure-in .result) (figure-is k) (c .before .if1 .taken)
 
--- src/lib.rt:387:9
 lower-in-requires : tie.Need-lower-in-requires
 lower-in-requires c κs = search needs
 
--- src/lib.rt:389:28
 add-sign-2 : tie.Need-add-sign-2
 add-sign-2 c = search needs
 
--- src/lib.rt:389:9
 sign-requires-2 : tie.Need-sign-requires-2
 sign-requires-2 c κs = search needs
 
--- src/lib.rt:389:9
 returns-2 : tie.Need-returns-2
-returns-2 c = ?
+returns-2 c =
+    let l = c .before .before in
+    let k = l .before .before in
+    let s = k .before .before .before .before in
+    c .sign2 .ensures
+    ∙ number-lower (s .args .at) (s .args .opened) (second k) (k .figure-in .result) (figure-is k) (l .before .if1 .left) (l .lower-in .result)
+    (l .lower-in .ensures ∙ ap lowerIn (word-is k)) (c .before .if2 .taken)
 
--- src/lib.rt:378:1
 returns-3 : tie.Need-returns-3
-returns-3 c = ?
+returns-3 c =
+    let l = c .before in
+    let k = l .before .before in
+    let s = k .before .before .before .before in
+    number-none (s .args .at) (s .args .opened) (second k) (k .figure-in .result) (figure-is k) (l .before .if1 .left) (l .lower-in .result)
+    (l .lower-in .ensures ∙ ap lowerIn (word-is k)) (c .if2 .left)
 
 pub number-spec : {M : Type 1} → statement M
 number-spec =

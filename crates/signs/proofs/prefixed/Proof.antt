@@ -1,3 +1,13 @@
+-- `prefixed`: a separated letter, %, ‰, a quotation mark, or a sign of two cells. Assumes nothing.
+use mathlib.Core.Bool.{false, _&&_}
+use mathlib.Core.Path.{_≡_, sym, ap, _∙_}
+use mathlib.Core.Logic.{⊎-elim}
+use Prim.Native.Nat.{ℕ, _+_}
+use lib.Dec.{eqb}
+use Rattle.rules.specs.Cells.{dots}
+use Rattle.signs.specs.Fields.{pointIn, figureIn, cellOf}
+use Rattle.signs.specs.Words.{wordOf, twoOf}
+use Rattle.signs.proofs.Cases.{separated-letter, Longer, no-digit, no-separator, is-percent, is-quote, two-none, two-sign, second-differs, first-differs}
 use borrow.Author.Needs.{needs}
 use Rattle.signs.proofs.prefixed.Statement.{statement}
 use Rattle.signs.proofs.prefixed.Tie as tie
@@ -12,81 +22,144 @@ use Rattle.signs.proofs.percent.Reads as percent-reads
 use Rattle.signs.proofs.point_in.Reads as point-in-reads
 use Rattle.signs.proofs.sign.Reads as sign-reads
 
--- src/lib.rt:410:9
+-- the cells in view
+abbrev X : tie.Start → ℕ
+X s = cellOf (s .args .row .now) (s .args .at)
+
+abbrev Y : tie.Start → ℕ
+Y s = cellOf (s .args .row .now) (s .args .at + 1)
+
+abbrev Z : tie.Start → ℕ
+Z s = cellOf (s .args .row .now) (s .args .at + 2)
+
+-- once both cells are known
+abbrev K : Type 0
+K = tie.After-cell-at2
+
+abbrev start : K → tie.Start
+start k = k .before .before .before
+
+x-is : (k : K) → k .before .cell-at .result ≡ X (start k)
+x-is k = k .before .cell-at .ensures
+
+y-is : (k : K) → k .cell-at2 .result ≡ Y (start k)
+y-is k = k .cell-at2 .ensures
+
+figure-is : (k : tie.After-figure-in) → k .figure-in .result ≡ figureIn (wordOf (Y (start (k .before .before .before))))
+figure-is k = k .figure-in .ensures ∙ ap figureIn (k .before .word-of .ensures ∙ ap wordOf (y-is (k .before .before .before)))
+
+-- where the ways meet: it is no separated letter; no % either; no quotation mark either
+longer : (j : tie.Joined1) → let s = start (j .before) in Longer (s .args .at) (s .args .opened) (s .args .deed) (X s) (Y s) (Z s)
+longer j =
+    let k = j .before in
+    let s = start k in
+    ⊎-elim
+    (λ w. no-digit (s .args .at) (s .args .opened) (s .args .deed) (X s) (Y s) (Z s) (w .2 .result)
+    (figure-is (record { before = record { before = record { before = k; if1 = w .0 }; word-of = w .1 }; figure-in = w .2 })) (w .3 .left))
+    (λ w. no-separator (s .args .at) (s .args .opened) (s .args .deed) (X s) (Y s) (Z s) (w .left)) (j .if1 .came)
+
+no-percent : (j : tie.Joined3) → let s = start (j .before .before) in (eqb (X s) (dots 456) && eqb (Y s) (dots 356)) ≡ false
+unfolding dots
+no-percent j =
+    let k = j .before .before in
+    let s = start k in
+    ⊎-elim (λ w. second-differs (X s) (Y s) 56 52 (λ e. w .1 .left (y-is k ∙ e)))
+    (λ w. first-differs (X s) (Y s) 56 52 (λ e. w .left (x-is k ∙ e))) (j .if3 .came)
+
+no-quote : (j : tie.Joined5) → let s = start (j .before .before .before) in (eqb (X s) (dots 6) && eqb (Y s) (dots 236)) ≡ false
+unfolding dots
+no-quote j =
+    let k = j .before .before .before in
+    let s = start k in
+    ⊎-elim (λ w. second-differs (X s) (Y s) 32 38 (λ e. w .1 .left (y-is k ∙ e)))
+    (λ w. first-differs (X s) (Y s) 32 38 (λ e. w .left (x-is k ∙ e))) (j .if5 .came)
+
+two-is : (t : tie.After-two-cells) → let s = start (t .before .before .before .before) in t .two-cells .result ≡ twoOf (X s) (Y s)
+two-is t =
+    let k = t .before .before .before .before in
+    t .two-cells .ensures ∙ ap (λ (n : ℕ). twoOf n (k .cell-at2 .result)) (x-is k) ∙ ap (twoOf (X (start k))) (y-is k)
+
 cell-at-requires : tie.Need-cell-at-requires
 cell-at-requires c κs = search needs
 
--- src/lib.rt:411:31
 add-cell-at : tie.Need-add-cell-at
 add-cell-at c = search needs
 
--- src/lib.rt:411:9
 cell-at-requires-2 : tie.Need-cell-at-requires-2
 cell-at-requires-2 c κs = search needs
 
--- src/lib.rt:413:13
 word-of-requires : tie.Need-word-of-requires
 word-of-requires c κs = search needs
 
--- src/lib.rt:414:12
 figure-in-requires : tie.Need-figure-in-requires
 figure-in-requires c κs = search needs
 
--- src/lib.rt:415:25
 point-in-requires : tie.Need-point-in-requires
 point-in-requires c κs = search needs
 
--- src/lib.rt:415:41
 add-sign : tie.Need-add-sign
 add-sign c = search needs
 
--- src/lib.rt:415:13
 sign-requires : tie.Need-sign-requires
 sign-requires c κs = search needs
 
--- src/lib.rt:415:13
 returns : tie.Need-returns
-returns c = ?
+returns c =
+    let p = c .before in
+    let f = p .before .before in
+    let s = start (f .before .before .before) in
+    c .sign .ensures
+    ∙ separated-letter (s .args .at) (s .args .opened) (s .args .deed) (X s) (Y s) (Z s) (f .before .before .if1 .taken) (p .point-in .result) (f .figure-in .result) (figure-is f) (p .before .if2 .taken)
+    (p .point-in .ensures ∙ ap pointIn (f .before .word-of .ensures ∙ ap wordOf (y-is (f .before .before .before))))
 
--- src/lib.rt:420:13
 percent-requires : tie.Need-percent-requires
 percent-requires c κs = search needs
 
--- src/lib.rt:420:13
 returns-2 : tie.Need-returns-2
-returns-2 c = ?
+unfolding dots
+returns-2 c =
+    let j = c .before .before .before in
+    let k = j .before in
+    let s = start k in
+    is-percent (s .args .at) (s .args .opened) (s .args .deed) (X s) (Y s) (Z s) (longer j) (sym (x-is k) ∙ c .before .before .if3 .taken) (sym (y-is k) ∙ c .before .if4 .taken) (c .percent .result) (c .percent .ensures)
 
--- src/lib.rt:425:39
 add-mark : tie.Need-add-mark
 add-mark c = search needs
 
--- src/lib.rt:425:13
 mark-requires : tie.Need-mark-requires
 mark-requires c κs = search needs
 
--- src/lib.rt:425:13
 returns-3 : tie.Need-returns-3
-returns-3 c = ?
+unfolding dots
+returns-3 c =
+    let j = c .before .before .before in
+    let k = j .before .before in
+    let s = start k in
+    is-quote (s .args .at) (s .args .opened) (s .args .deed) (X s) (Y s) (Z s) (longer (j .before)) (no-percent j) (sym (x-is k) ∙ c .before .before .if5 .taken) (sym (y-is k) ∙ c .before .if6 .taken) (c .mark .result) (c .mark .ensures)
 
--- src/lib.rt:428:9
 two-cells-requires : tie.Need-two-cells-requires
 two-cells-requires c κs = search needs
 
--- src/lib.rt:430:9
 returns-4 : tie.Need-returns-4
-returns-4 c = ?
+returns-4 c =
+    let t = c .before in
+    let j = t .before in
+    let s = start (j .before .before .before) in
+    two-none (s .args .at) (s .args .opened) (s .args .deed) (X s) (Y s) (Z s) (longer (j .before .before)) (no-percent (j .before)) (no-quote j) (t .two-cells .result) (two-is t) (c .if7 .taken)
 
--- src/lib.rt:432:17
 add-sign-2 : tie.Need-add-sign-2
 add-sign-2 c = search needs
 
--- src/lib.rt:432:5
 sign-requires-2 : tie.Need-sign-requires-2
 sign-requires-2 c κs = search needs
 
--- src/lib.rt:406:1
 returns-5 : tie.Need-returns-5
-returns-5 c = ?
+returns-5 c =
+    let t = c .before .before in
+    let j = t .before in
+    let s = start (j .before .before .before) in
+    c .sign2 .ensures
+    ∙ two-sign (s .args .at) (s .args .opened) (s .args .deed) (X s) (Y s) (Z s) (longer (j .before .before)) (no-percent (j .before)) (no-quote j) (t .two-cells .result) (two-is t) (c .before .if7 .left)
 
 pub prefixed-spec : {M : Type 1} → statement M
 prefixed-spec =
