@@ -22,11 +22,12 @@ cat <<'TEXT'
 // is read at each with the rules.
 TEXT
 
+# In the order of the layout: an underscore goes before a letter.
 {
-    for name in CAPITAL_AT FIGURE_AT FREE KIND_AT LOWER_AT MIXED NO_POINT POINT_AT THEN_AT USUAL_AT; do echo "use crate::$name;"; done
-    printf '%s\n' "$cells" | awk -F '\t' '$1 != "two" { print "use crate::" $3 ";" }'
-    printf '%s\n' "$places" | awk -F '\t' '$3 == "AS_USUAL" { print "use crate::" $2 ";" }'
-} | sort -u
+    for name in CAPITAL_AT FIGURE_AT FREE KIND_AT LOWER_AT MIXED NO_POINT POINT_AT THEN_AT USUAL_AT; do echo "$name"; done
+    printf '%s\n' "$cells" | awk -F '\t' '$1 != "two" { print $3 }'
+    printf '%s\n' "$places" | awk -F '\t' '$3 == "AS_USUAL" { print $2 }'
+} | tr _ ' ' | sort -u | tr ' ' _ | sed 's/.*/use crate::&;/'
 
 cat <<'TEXT'
 ghost use mathlib.Core.Path.{_≡_};

@@ -1,61 +1,6 @@
 #!/bin/sh
 # prints: crates/turns/specs/Deeds.antt
 #
-# The table of deeds as a list, which the specifications speak of. The table stands in tools/deeds.txt (read by
-# tools/deeds.awk). States and deeds have the names that they have there, in camelCase: BEGINS_RUN is `beginsRun`.
-#
-# Nothing printed is trusted: the prover compares the list with the rules.
-set -eu
-CDPATH='' cd "$(dirname "$0")/.."
-
-# Bytes and not characters, so that every awk prints the same.
-LC_ALL=C
-export LC_ALL
-
-places=$(awk -f tools/deeds.awk tools/deeds.txt)
-count=$(printf '%s\n' "$places" | awk 'END { print NR }')
-
-# The state and the deed of each place, in camelCase.
-named=$(printf '%s\n' "$places" | awk -F '\t' '
-function camel(name,    part, parts, i, made) {
-    parts = split(tolower(name), part, "_")
-    for (i = 1; i <= parts; i++)
-        made = made (i == 1 ? part[i] : toupper(substr(part[i], 1, 1)) substr(part[i], 2))
-    return made
-}
-
-{ print camel($2), camel($3) }')
-
-uses=$(printf '%s\n' "$named" | awk '{ print $2 }' | sort -u | awk '{ printf "%s%s", NR == 1 ? "" : ", ", $0 }')
-
-cat <<TEXT
--- Printed by tools/print-deed-list.sh from tools/deeds.txt: change that, and print it again.
--- What is done at a place, by its state and the class of its code point: 16 rows of 16, a row for each state. Where there is no state or
--- no class of a number, there is no sign. That it is what the rules say is shown by one computed test (proofs/Machine.antt). Assumes nothing.
-use Prim.Native.Nat.{ℕ}
-use mathlib.Core.List.{List, [], _∷_}
-use Rattle.turns.specs.Acts.{$uses}
-
-unfoldable pub deeds : List ℕ
-deeds =
-TEXT
-
-# A line for each state, under a comment.
-printf '%s\n' "$named" | awk '
-$1 != state {
-    if (NR > 1) print ""
-    state = $1
-    print "    -- " state
-    printf "   "
-    if (NR == 1) { printf " %s", $2; next }
-}
-{ printf " ∷ %s", $2 }
-END { print "" }'
-
-cat <<TEXT
-    ∷ []
-
--- how many there are
-abbrev pub deedCount : ℕ
-deedCount = $count
-TEXT
+# What is done at a place of a text, from tools/deeds.txt, as a list.
+exec "$(dirname "$0")/deed-list.sh" turns tools/deeds.txt print-deed-list.sh \
+    'What is done at a place, by its state and the class of its code point' Machine

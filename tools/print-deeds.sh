@@ -1,49 +1,6 @@
 #!/bin/sh
 # prints: crates/turns/src/table.rt
 #
-# The table of deeds as code: what is done at a place, by its state and the class of its code point. The table stands in
-# tools/deeds.txt (read by tools/deeds.awk): a new state or class is added there.
-#
-# Nothing printed is trusted: the prover compares the table with the rules.
-set -eu
-CDPATH='' cd "$(dirname "$0")/.."
-
-# Bytes and not characters, so that every awk prints the same.
-LC_ALL=C
-export LC_ALL
-
-places=$(awk -f tools/deeds.awk tools/deeds.txt)
-last=$(printf '%s\n' "$places" | awk 'END { print NR - 1 }')
-
-cat <<'TEXT'
-// Printed by tools/print-deeds.sh from tools/deeds.txt: change that, and print it again. The check compares it with the rules.
-// What is done at a place, by its state and the class of its code point: 16 rows of 16, a row for each state. Where
-// there is no state or no class of a number, there is no sign.
-TEXT
-
-printf '%s\n' "$places" | awk -F '\t' '{ print "use crate::" $3 ";" }' | sort -u
-
-cat <<'TEXT'
-ghost use mathlib.Core.Path.{_≡_};
-ghost use Prim.Native.Nat.{_<_};
-ghost use lib.ListN.{getD};
-ghost use Rattle.turns.specs.Acts.{noSign};
-ghost use Rattle.turns.specs.Deeds.{deeds, deedCount};
-
-// There is no other place in the table than these.
-pub fn deed_at(place: usize) -> usize
-    requires { ⌜ place < deedCount ⌝ }
-    ensures { λ r. ⌜ r ≡ getD deeds place noSign ⌝ }
-{
-    match place {
-TEXT
-
-# An arm for each place, under a comment for each state. The last is for all that the others are not.
-printf '%s\n' "$places" | awk -F '\t' -v last="$last" '
-$2 != state { state = $2; print "        // " state }
-{ print "        " ($1 == last ? "_" : $1) " => " $3 ", // " $4 }'
-
-cat <<'TEXT'
-    }
-}
-TEXT
+# What is done at a place of a text, from tools/deeds.txt, as code.
+exec "$(dirname "$0")/deed-code.sh" turns tools/deeds.txt print-deeds.sh \
+    'What is done at a place, by its state and the class of its code point'

@@ -1,6 +1,6 @@
 -- Printed by tools/print-reading-list.sh from tools/readings.txt: change that, and print it again.
--- What is read at a place, by the mode and the class of the cell: 16 rows of 16, a row for each mode. Where there is no state or
--- no class of a number, there is no sign. That it is what the rules say is shown by one computed test (proofs/Machine.antt). Assumes nothing.
+-- What is read at a place, by the mode and the class of the cell: 16 rows of 16. Where there is no row or no class of a number, there
+-- is no sign. That it is what the rules say is shown by a computed test (proofs/Tested.antt). Assumes nothing.
 use Prim.Native.Nat.{ℕ}
 use mathlib.Core.List.{List, [], _∷_}
 use Rattle.signs.specs.Acts.{asUsual, beginsRun, capitalOfMany, dashOnly, denominator, digit, digitUnder, greaterOnly, hyphenOrDash, lowerDigit, mark, masculineMark, noSign, numberSign, oneOrFeminine, owedCapital, point, prefixed, runGoesOn, secondCapital, separates}

@@ -1,6 +1,6 @@
 // Printed by tools/print-readings.sh from tools/readings.txt: change that, and print it again. The check compares it with the rules.
-// What is read at a place, by the mode and the class of the cell: 16 rows of 16, a row for each mode. Where
-// there is no state or no class of a number, there is no sign.
+// What is read at a place, by the mode and the class of the cell: 16 rows of 16. Where there is no row or no class of a number,
+// there is no sign.
 use crate::AS_USUAL;
 use crate::BEGINS_RUN;
 use crate::CAPITAL_OF_MANY;

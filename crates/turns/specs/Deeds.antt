@@ -1,6 +1,6 @@
 -- Printed by tools/print-deed-list.sh from tools/deeds.txt: change that, and print it again.
--- What is done at a place, by its state and the class of its code point: 16 rows of 16, a row for each state. Where there is no state or
--- no class of a number, there is no sign. That it is what the rules say is shown by one computed test (proofs/Machine.antt). Assumes nothing.
+-- What is done at a place, by its state and the class of its code point: 16 rows of 16. Where there is no row or no class of a number, there
+-- is no sign. That it is what the rules say is shown by a computed test (proofs/Machine.antt). Assumes nothing.
 use Prim.Native.Nat.{ℕ}
 use mathlib.Core.List.{List, [], _∷_}
 use Rattle.turns.specs.Acts.{barOfFraction, beginsNumber, beginsRun, capitalAlone, capitalOfMany, digit, digitUnder, feminineMark, letter, lowerDigit, noSign, numberPoint, oneUnder, outsideForm, separatedLetter, sharesCells, sign, stopOfOrdinal, theDash, theHyphen}

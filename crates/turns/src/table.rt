@@ -1,6 +1,6 @@
 // Printed by tools/print-deeds.sh from tools/deeds.txt: change that, and print it again. The check compares it with the rules.
-// What is done at a place, by its state and the class of its code point: 16 rows of 16, a row for each state. Where
-// there is no state or no class of a number, there is no sign.
+// What is done at a place, by its state and the class of its code point: 16 rows of 16. Where there is no row or no class of a number,
+// there is no sign.
 use crate::BAR_OF_FRACTION;
 use crate::BEGINS_NUMBER;
 use crate::BEGINS_RUN;

@@ -138,7 +138,7 @@ mark-requires c κs =
     let w = at-word d in
     let s = start w in (
       kind-known (s .args .row .now) (s .args .at) (s .args .mode) (w .word-of .result) (d .deed-of .result) (c .kind-in .result) (s .pre .2) (word-is w) (told d)
-      (c .before .match .keys8) (c .kind-in .ensures),
+          (c .before .match .keys8) (c .kind-in .ensures),
       s .pre .3,
     )
 
