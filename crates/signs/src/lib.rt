@@ -472,10 +472,10 @@ fn asked(row: &[u8], at: usize, word: u64, deed: usize, opened: usize) -> Step
             }
         }
         DASH_ONLY => {
-            if cell_at(row, at + 1) == D36 {
-                sign(THE_DASH, at + 2, DASH, opened)
-            } else {
+            if cell_at(row, at + 1) != D36 {
                 Step::Nothing
+            } else {
+                sign(THE_DASH, at + 2, DASH, opened)
             }
         }
         NUMBER_SIGN => number(row, at, opened),

@@ -152,16 +152,19 @@ returns-6 c =
 returns-7 : tie.Need-returns-7
 unfolding dots
 returns-7 c =
-    let k = c .before .before in
+    let k = c .before in
     let s = k .before .before .before in
-    c .sign5 .ensures ∙ dash-again (s .args .at) (s .args .opened) (s .args .deed) (s .args .word) (X s) (Y s) (Z s) (k .before .match .keys4) (sym (k .cell-at4 .ensures) ∙ c .before .if4 .taken)
+    half-dash (s .args .at) (s .args .opened) (s .args .deed) (s .args .word) (X s) (Y s) (Z s) (k .before .match .keys4)
+    (λ e. c .if4 .taken (k .cell-at4 .ensures ∙ e))
 
 returns-8 : tie.Need-returns-8
 unfolding dots
 returns-8 c =
-    let k = c .before in
+    let k = c .before .before in
     let s = k .before .before .before in
-    half-dash (s .args .at) (s .args .opened) (s .args .deed) (s .args .word) (X s) (Y s) (Z s) (k .before .match .keys4) (λ e. c .if4 .left (k .cell-at4 .ensures ∙ e))
+    c .sign5 .ensures
+    ∙ dash-again (s .args .at) (s .args .opened) (s .args .deed) (s .args .word) (X s) (Y s) (Z s) (k .before .match .keys4)
+    (sym (k .cell-at4 .ensures) ∙ c .before .if4 .left)
 
 returns-9 : tie.Need-returns-9
 returns-9 c =
