@@ -1,5 +1,6 @@
 //! Print with the cells that it must give, put together piece by piece. Only what the bench needs: small letters, words with a capital in
-//! front, numbers, and signs of one cell. It is no transcriber: whoever calls says what each piece is.
+//! front, numbers, and signs of one cell. It is no transcriber: whoever calls says what each piece is. Where the print is normal, it is the text
+//! that its cells must give.
 
 /// Print and its cells.
 #[derive(Clone, Default)]
@@ -84,4 +85,11 @@ impl Text {
         self.print.extend(print.chars().map(u32::from));
         self.cells.extend(cells.chars().map(|pattern| (u32::from(pattern) - 0x2800) as u8));
     }
+}
+
+/// One run of letters, of which the last alone is small: what stands before the first is settled only there.
+pub fn capitals_then_small(length: usize) -> Text {
+    let mut text = Text::repeated(length - 1, "A", "", "⠨⠁");
+    text.word("a", false);
+    text
 }

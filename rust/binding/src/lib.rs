@@ -1,17 +1,38 @@
-//! Spanish print to six-dot braille cells: the proved library `desk`, for Rust.
+//! Spanish print to six-dot braille cells, and back: the proved library `desk`, for Rust.
 //!
-//! [`transcribe`] is all there is. What it answers is proved of the library; that the library is called as it expects is this file's part.
+//! [`transcribe`] gives the cells of print, [`read()`] the text of cells, and [`step`] the text of one sign. What they answer is proved of the
+//! library; that the library is called as it expects is this file's part.
 //!
 //! ```
-//! use omdurgash::{transcribe, Number, Refusal};
+//! use omdurgash::{read, step, transcribe, Number, Refusal};
 //!
+//! // 3456-125-5-12
 //! let mut row = [0; 8];
 //! let print: Vec<u32> = "8b".chars().map(u32::from).collect();
 //! assert_eq!(transcribe(&print, &mut row), Ok(4));
 //! assert_eq!(row, [60, 19, 16, 3, 0, 0, 0, 0]);
 //!
+//! // .. and back
+//! let mut text = [0; 4];
+//! assert_eq!(read(&row[..4], &mut text), Ok(2));
+//! assert_eq!(text[..2], print);
+//!
+//! // .. sign by sign: each step gives the code points of a sign and the place after it
+//! let row = &row[..4];
+//! let mut place = 0;
+//! let mut signs = Vec::new();
+//! while place < row.len() {
+//!     let sign = step(row, place)?;
+//!     signs.push((place, sign.points().to_vec()));
+//!     place = sign.next();
+//! }
+//! assert_eq!(signs, [(0, vec![u32::from('8')]), (2, vec![u32::from('b')])]);
+//!
+//! // Print that would share its cells with another, and a row that no text has.
 //! let print: Vec<u32> = "1.b".chars().map(u32::from).collect();
-//! assert_eq!(transcribe(&print, &mut row), Err(Refusal { number: Number::SharesCells, second: 2 }));
+//! assert_eq!(transcribe(&print, &mut [0; 8]), Err(Refusal { number: Number::SharesCells, second: 2 }));
+//! assert_eq!(read(&[40, 1, 40, 3], &mut text), Err(Refusal { number: Number::NoText, second: 0 }));
+//! # Ok::<(), Refusal>(())
 //! ```
 //!
 //! A new function of the library is declared in the `extern` block here and in `include/omdurgash.h`; a new refusal is a variant of
@@ -19,28 +40,36 @@
 use std::error::Error;
 use std::fmt;
 
-/// A row with this room is never too short: no print that is accepted has more cells.
+/// Room for so many cells is never too little: no print that is accepted has more. A row of more cells is refused.
 pub const LONGEST_ROW: usize = 12_288;
 
-/// Why print is refused, by the number that the desk shows. A place counts from 0 in the normalised print.
+/// Room for so many code points is never too little: no row that is accepted has a longer text. Print whose text is longer is refused.
+pub const LONGEST_TEXT: usize = 4_096;
+
+/// Why print or a row is refused, by the number that the desk shows. A place counts from 0: in the text, which is the normalised print, or in the
+/// row. A length above 4,294,967,295 is given as that number.
 #[derive(Clone, Copy, Debug, PartialEq, Eq, Hash)]
 #[repr(u8)]
 pub enum Number {
-    /// The normalised print is above 4,096 code points. Second: its length, and 4,294,967,295 where it is above that.
+    /// The text of the print is above 4,096 code points, the row is above 12,288 cells, or it has a text above 4,096. Second: that length.
     TooLong = 1,
-    /// A code point has no sign. Second: its place.
+    /// A code point of the print has no sign. Second: its place.
     NoSign = 2,
-    /// A pair mark stands against the pair rule. Second: its place; or the length of the normalised print, where one is open at the end.
+    /// A pair mark of the print stands against the pair rule. Second: its place; or the length of the text, where one is open at the end.
     PairBroken = 3,
     /// º, ª or U+2044 stands outside an ordinal or a fraction. Second: its place.
     OutsideForm = 4,
     /// The print would share its cells with another print. Second: the place where it would.
     SharesCells = 5,
-    /// The row is too short for the cells. Second: the room that they need.
+    /// There is too little room for the cells, or for the text. Second: the room that they need.
     NeedsRoom = 6,
+    /// A byte of the row is above 63. Second: the first place of such a one.
+    NotACell = 7,
+    /// No text of any length has the row. Second: 0.
+    NoText = 8,
 }
 
-/// Why print is refused, and where or by how much.
+/// Why print or a row is refused, and where or by how much.
 #[derive(Clone, Copy, Debug, PartialEq, Eq, Hash)]
 pub struct Refusal {
     /// Why.
@@ -49,15 +78,51 @@ pub struct Refusal {
     pub second: usize,
 }
 
-/// The library's answer: number 0 and the count of cells, or a refusal's two numbers.
+/// What a step over a row gives: the code points of the sign that starts at a place, and the place after it.
+///
+/// A sign is the cells of one code point, with any 46-46, 46, 3456 or separating 5 before them. A code point without a cell goes with the sign
+/// after it: the full stop of an ordinal with its º or ª, U+2044 with the first digit of the denominator.
+#[derive(Clone, Copy, Debug, PartialEq, Eq, Hash)]
+pub struct Step {
+    points: [u32; 2],
+    count: usize,
+    next: usize,
+}
+
+impl Step {
+    /// The code points of the sign, one or two; none where no sign starts at the place.
+    pub fn points(&self) -> &[u32] {
+        &self.points[..self.count]
+    }
+
+    /// The place after the sign; the same place where no sign starts there.
+    pub fn next(&self) -> usize {
+        self.next
+    }
+}
+
+/// The library's answer: number 0 and the count of what was written, or a refusal's two numbers.
 #[repr(C)]
 struct Shown {
     number: usize,
     second: usize,
 }
 
+/// The library's answer to a step: number 0, the count of code points, these, and the place after the sign; or a refusal's two numbers, no code
+/// point, and the place.
+#[repr(C)]
+struct Sign {
+    number: usize,
+    second: usize,
+    first: u32,
+    then: u32,
+    next: usize,
+}
+
 extern "C" {
     fn desk_transcribe(print: *const u32, print_len: usize, row: *mut u8, row_len: usize) -> Shown;
+    fn desk_read(row: *const u8, row_len: usize, text: *mut u32, text_len: usize) -> Shown;
+    fn desk_step(row: *const u8, row_len: usize, place: usize) -> Sign;
 }
 
 /// Transcribes one paragraph: writes the cells of `print` into `row`, from its first element on, and gives their count.
@@ -67,14 +132,76 @@ extern "C" {
 ///
 /// # Errors
 ///
-/// The refusal that the rules give. Every element of `row` is then as it was.
+/// The refusal that the rules give: `TooLong`; then that with the least place; then `NeedsRoom`. Every element of `row` is then as it was.
 pub fn transcribe(print: &[u32], row: &mut [u8]) -> Result<usize, Refusal> {
     // SAFETY: the library takes each slice as pointer and length in elements, and asks only that the memory is there, aligned, not null and
     // lent as here: to be read for `print`, and to nobody else for `row`. Slices are so, empty ones included.
     let shown = unsafe { desk_transcribe(print.as_ptr(), print.len(), row.as_mut_ptr(), row.len()) };
-    match shown.number {
-        0 => Ok(shown.second),
-        number => Err(Refusal { number: Number::of(number), second: shown.second }),
+    shown.answer()
+}
+
+/// Reads one row: writes the only text that has it into `text`, from its first element on, and gives the count of code points.
+///
+/// Any bytes may stand in `row`, and `text` may have any length. The text is normalised print: with `«` and `»` for `“` and `”`, `2.ª` for `2ª`,
+/// three full stops for U+2026. The elements after the count are as they were.
+///
+/// ```
+/// use omdurgash::{read, Number, Refusal, LONGEST_TEXT};
+///
+/// let mut text = [0; LONGEST_TEXT];
+/// assert_eq!(read(&[60, 6, 1], &mut text), Ok(3)); // 3456-23-1
+/// assert_eq!(text[..3], ['2', '.', 'ª'].map(u32::from));
+///
+/// assert_eq!(read(&[60, 6, 1], &mut text[..2]), Err(Refusal { number: Number::NeedsRoom, second: 3 }));
+/// assert_eq!(read(&[36, 36, 36, 64], &mut text), Err(Refusal { number: Number::NotACell, second: 3 }));
+/// ```
+///
+/// # Errors
+///
+/// The first of these that holds: `TooLong` for the row, `NotACell`, `NoText`, `TooLong` for its text, `NeedsRoom`. Every element of `text` is then
+/// as it was.
+pub fn read(row: &[u8], text: &mut [u32]) -> Result<usize, Refusal> {
+    // SAFETY: as for `transcribe`: to be read for `row`, and to nobody else for `text`.
+    let shown = unsafe { desk_read(row.as_ptr(), row.len(), text.as_mut_ptr(), text.len()) };
+    shown.answer()
+}
+
+/// Steps over one sign: gives the code points of the sign of `row` that starts at `place`, and the place after it.
+///
+/// Any bytes may stand in `row`, and `place` may be any number. At or past the row's end, and within a sign, no sign starts: there is then no code
+/// point, and the same place is given. The answer follows from the row and the place alone. From 0 on, the steps go over every sign of the row once,
+/// and their code points, one after the other, are its text. Each step reads the whole row.
+///
+/// ```
+/// use omdurgash::step;
+///
+/// // 3456-25-145 is 3⁄4, in two signs; U+2044 goes with the 4.
+/// let row = [60, 18, 25];
+/// let sign = step(&row, 2)?;
+/// assert_eq!((sign.points(), sign.next()), (&['\u{2044}', '4'].map(u32::from)[..], 3));
+///
+/// // No sign starts at the 25, which is the 3 with the 3456 before it.
+/// let sign = step(&row, 1)?;
+/// assert_eq!((sign.points(), sign.next()), (&[][..], 1));
+/// # Ok::<(), omdurgash::Refusal>(())
+/// ```
+///
+/// # Errors
+///
+/// A row is refused as [`read()`] refuses it where there is room enough, whatever the place is.
+pub fn step(row: &[u8], place: usize) -> Result<Step, Refusal> {
+    // SAFETY: as for `transcribe`: to be read for `row`.
+    let sign = unsafe { desk_step(row.as_ptr(), row.len(), place) };
+    let count = Shown { number: sign.number, second: sign.second }.answer()?;
+    Ok(Step { points: [sign.first, sign.then], count, next: sign.next })
+}
+
+impl Shown {
+    fn answer(self) -> Result<usize, Refusal> {
+        match self.number {
+            0 => Ok(self.second),
+            number => Err(Refusal { number: Number::of(number), second: self.second }),
+        }
     }
 }
 
@@ -87,6 +214,8 @@ impl Number {
             4 => Number::OutsideForm,
             5 => Number::SharesCells,
             6 => Number::NeedsRoom,
+            7 => Number::NotACell,
+            8 => Number::NoText,
             // Never reached: the library is proved to show no other number.
             _ => unreachable!("the desk showed {number}"),
         }
@@ -97,12 +226,14 @@ impl fmt::Display for Refusal {
     fn fmt(&self, f: &mut fmt::Formatter) -> fmt::Result {
         let second = self.second;
         match self.number {
-            Number::TooLong => write!(f, "the print is too long: {second} code points"),
+            Number::TooLong => write!(f, "it is too long: {second}"),
             Number::NoSign => write!(f, "the code point at {second} has no sign"),
             Number::PairBroken => write!(f, "the pair rule is broken at {second}"),
             Number::OutsideForm => write!(f, "the sign at {second} is outside an ordinal or a fraction"),
             Number::SharesCells => write!(f, "the print at {second} would share its cells with another"),
-            Number::NeedsRoom => write!(f, "the cells need room for {second}"),
+            Number::NeedsRoom => write!(f, "there is too little room: it needs {second}"),
+            Number::NotACell => write!(f, "the byte at {second} is no cell"),
+            Number::NoText => write!(f, "no text has this row"),
         }
     }
 }

@@ -1,7 +1,14 @@
-//! The vectors: print, and the cells that it must give or the refusal. The head of `vectors/print-to-cells.txt` tells the form.
+//! The vectors: print, and the cells that it must give or the refusal, here; rows, and the print that they must give or the refusal, in [`rows`].
+//! The head of `vectors/print-to-cells.txt` and that of `vectors/cells-to-print.txt` tell the form. With them, what the tests need to know of
+//! paper 01 besides: [`normal`], [`signs`] and, for print by the thousand, [`random`].
 //!
 //! The form is taken strictly: a line that may not stand where it stands is an error with its number, so that no vector is passed over.
 //! A new sort of line is an arm of `Reading::take` and a field of `Begun`; `crates/run_vectors` reads the same file and changes with it.
+pub mod normal;
+pub mod random;
+pub mod rows;
+pub mod signs;
+
 use std::collections::HashSet;
 use std::fmt;
 use std::io::Write;
@@ -56,14 +63,42 @@ pub fn say(what: &str) {
 /// All vectors of a file's text.
 pub fn parse(text: &str) -> Result<Vec<Vector>, BadLine> {
     let mut reading = Reading::default();
-    let mut last = 0;
-    for (before, line) in text.split('\n').enumerate() {
-        last = before + 1;
-        reading.take(line).map_err(|why| BadLine { line: last, why })?;
-    }
+    let last = each_line(text, |word, rest| reading.take(word, rest))?;
     match reading.begun {
         Some(_) => Err(BadLine { line: last, why: "the file ends within a vector" }),
         None => Ok(reading.vectors),
+    }
+}
+
+/// Hands out each line that is neither empty nor a comment, as its first word and what stands behind the blank after it, and gives the number
+/// of the last line.
+fn each_line(text: &str, mut take: impl FnMut(&str, &str) -> Result<(), &'static str>) -> Result<usize, BadLine> {
+    let mut last = 0;
+    for (before, line) in text.split('\n').enumerate() {
+        last = before + 1;
+        if line.is_empty() || line.starts_with('#') {
+            continue;
+        }
+        // The word alone is the word with nothing behind it.
+        let (word, rest) = line.split_once(' ').unwrap_or((line, ""));
+        take(word, rest).map_err(|why| BadLine { line: last, why })?;
+    }
+    Ok(last)
+}
+
+/// The names that were given.
+#[derive(Default)]
+struct Names(HashSet<String>);
+
+impl Names {
+    fn take(&mut self, name: &str) -> Result<String, &'static str> {
+        if name.is_empty() || !name.bytes().all(|b| matches!(b, b'a'..=b'z' | b'0'..=b'9' | b'_')) {
+            return Err("a name is of small letters, digits and _");
+        }
+        if !self.0.insert(name.to_string()) {
+            return Err("another vector has this name");
+        }
+        Ok(name.to_string())
     }
 }
 
@@ -71,7 +106,7 @@ pub fn parse(text: &str) -> Result<Vec<Vector>, BadLine> {
 #[derive(Default)]
 struct Reading {
     vectors: Vec<Vector>,
-    names: HashSet<String>,
+    names: Names,
     begun: Option<Begun>,
 }
 
@@ -85,12 +120,7 @@ struct Begun {
 }
 
 impl Reading {
-    fn take(&mut self, line: &str) -> Result<(), &'static str> {
-        if line.is_empty() || line.starts_with('#') {
-            return Ok(());
-        }
-        // The word alone is the word with nothing behind it.
-        let (word, rest) = line.split_once(' ').unwrap_or((line, ""));
+    fn take(&mut self, word: &str, rest: &str) -> Result<(), &'static str> {
         match word {
             "name" => self.begin(rest),
             "print" => self.begun()?.set_print(rest.chars().map(u32::from).collect()),
@@ -111,13 +141,7 @@ impl Reading {
         if self.begun.is_some() {
             return Err("the vector before it is not whole");
         }
-        if name.is_empty() || !name.bytes().all(|b| matches!(b, b'a'..=b'z' | b'0'..=b'9' | b'_')) {
-            return Err("a name is of small letters, digits and _");
-        }
-        if !self.names.insert(name.to_string()) {
-            return Err("another vector has this name");
-        }
-        self.begun = Some(Begun { name: name.to_string(), ..Begun::default() });
+        self.begun = Some(Begun { name: self.names.take(name)?, ..Begun::default() });
         Ok(())
     }
 
@@ -154,11 +178,7 @@ impl Begun {
         if self.times.is_some() || self.before.is_some() {
             return Err("times stands once, directly after the print");
         }
-        // The bound keeps a slip of the hand from filling the memory.
-        match decimal(rest)? {
-            times @ 1..=100_000 => self.times = Some(times),
-            _ => return Err("times is 1 to 100000"),
-        }
+        self.times = Some(times(rest)?);
         Ok(())
     }
 
@@ -187,6 +207,14 @@ impl Begun {
             number @ 1..=5 => Ok(Answer::No(number as u8, decimal(second)?)),
             _ => Err("a refusal's number is 1 to 5"),
         }
+    }
+}
+
+/// How often something is repeated. The bound keeps a slip of the hand from filling the memory.
+fn times(rest: &str) -> Result<usize, &'static str> {
+    match decimal(rest)? {
+        times @ 1..=100_000 => Ok(times),
+        _ => Err("times is 1 to 100000"),
     }
 }
 

@@ -3,8 +3,34 @@ use std::path::Path;
 use std::process::{Command, Output};
 use vectors::{of_repository, say};
 
-/// The two numbers of "8b" and its cells 3456, 125, 5, 12; those of "1.b"; those of the empty print, and no cell.
-const WANTED: &str = "0 4\n60 19 16 3\n5 2\n0 0\n\n";
+/// "8b": its two numbers, its cells 3456, 125, 5, 12, what they are read as, and its two signs. "1.b". "3⁄4", where U+2044 goes with the 4. The empty
+/// print. Then rows: 46-1-46-12; one with a byte that is no cell; the empty one without room; "ab" with room for one; a step past the end.
+const WANTED: &str = "\
+0 4
+60 19 16 3
+read 0 2
+38 62
+step 0 to 2: 1 38 0
+step 2 to 4: 1 62 0
+5 2
+0 3
+60 18 25
+read 0 3
+33 2044 34
+step 0 to 2: 1 33 0
+step 2 to 3: 2 2044 34
+0 0
+
+read 0 0
+
+read 8 0
+step 0 to 0: no 8 0
+read 7 1
+step 0 to 0: no 7 1
+0 0
+6 2
+0 0 7
+";
 
 fn succeeded(what: &str, output: &Output) {
     assert!(output.status.success(), "{what}: {}\n{}", output.status, String::from_utf8_lossy(&output.stderr));

@@ -1,9 +1,10 @@
-//! "A length above 4,294,967,295 is reported as that number": print of such a length, without the memory for it.
+//! "A length above 4,294,967,295 is reported as that number": print and rows of such a length, without the memory for it.
 //!
 //! U+2026 counts three, so 1.4 thousand million of them are enough. One block of them stands in the memory, and is mapped at one address
-//! after the other; only the last stretch is the print's own. It takes some megabytes, and x86-64 Linux.
-#![cfg(all(target_arch = "x86_64", target_os = "linux"))]
-use omdurgash::{transcribe, Number, Refusal};
+//! after the other; only the last stretch is the print's own. Of a row nothing but the length is looked at, so none of it stands in the memory.
+//! It takes some megabytes, and Linux on x86-64 or AArch64, where the numbers below are the same.
+#![cfg(all(any(target_arch = "x86_64", target_arch = "aarch64"), target_os = "linux"))]
+use omdurgash::{read, step, transcribe, Number, Refusal};
 use std::ffi::{c_char, c_int, c_long, c_uint, c_void};
 use std::fs::File;
 use std::io::{Error, Write};
@@ -52,7 +53,7 @@ fn block() -> Result<File, Error> {
     Ok(file)
 }
 
-/// Print that lies in mapped memory.
+/// Print, or a row, that lies in mapped memory.
 struct Mapped {
     address: *mut c_void,
     bytes: usize,
@@ -95,6 +96,18 @@ impl Mapped {
         last[..rest].fill(ELLIPSIS);
         last[rest..rest + letters].fill(LETTER);
         Ok(mapped)
+    }
+
+    /// A row of so many blanks: pages that nobody has written to are 0.
+    fn blanks(bytes: usize) -> Result<Mapped, Error> {
+        // SAFETY: the addresses are the system's choice.
+        let address = unsafe { map(ptr::null_mut(), bytes, PROT_READ, MAP_PRIVATE | MAP_ANONYMOUS | MAP_NORESERVE, -1)? };
+        Ok(Mapped { address, bytes, points: 0 })
+    }
+
+    fn row(&self) -> &[u8] {
+        // SAFETY: as for `print`.
+        unsafe { slice::from_raw_parts(self.address.cast::<u8>(), self.bytes) }
     }
 
     fn print(&self) -> &[u32] {
@@ -157,4 +170,35 @@ fn len_one_above_the_cap() {
 #[test]
 fn len_twice_above_the_cap() {
     length_is_reported(2 * (CAP + 1) + 5, CAP);
+}
+
+/// Asks for the length of a row, from reading and from a step, and that the text is left as it was.
+fn row_length_is_reported(length: usize, reported: usize) {
+    let mapped = match Mapped::blanks(length) {
+        Ok(mapped) => mapped,
+        Err(error) => return say(&format!("NOT TESTED: a row of {length} cells cannot be mapped here: {error}")),
+    };
+    let refusal = Refusal { number: Number::TooLong, second: reported };
+    let mut text = [u32::MAX; 16];
+    assert_eq!(read(mapped.row(), &mut text), Err(refusal), "a row of {length} cells");
+    assert_eq!(text, [u32::MAX; 16], "a row of {length} cells");
+    assert_eq!(step(mapped.row(), 0), Err(refusal), "a row of {length} cells");
+    assert_eq!(plain::read(mapped.row(), &mut text), Err(plain::Refusal::RowTooLong(reported)), "a row of {length} cells");
+}
+
+#[test]
+fn row_at_the_cap() {
+    row_length_is_reported(CAP, CAP);
+}
+
+// In 32 bits it would be 0, which is accepted.
+#[test]
+fn row_one_above_the_cap() {
+    row_length_is_reported(CAP + 1, CAP);
+}
+
+// In 32 bits it would be 12,289, which is refused with that number.
+#[test]
+fn row_far_above_the_cap() {
+    row_length_is_reported(CAP + 1 + 12_289, CAP);
 }
