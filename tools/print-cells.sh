@@ -31,6 +31,7 @@ TEXT
 
 cat <<'TEXT'
 ghost use mathlib.Core.Path.{_≡_};
+ghost use Rattle.signs.specs.Fields.{capitalIn, figureIn, lowerIn, letterIn};
 ghost use Rattle.signs.specs.Words.{wordOf, twoOf};
 
 // The cells, by their dots.
@@ -85,7 +86,8 @@ $1 != "two" && $3 != "NOTHING" {
 }'
 
 cat <<'TEXT'
-// The word of a cell; that of a byte that is none begins no sign.
+// The word of a cell; that of a byte that is none begins no sign. (For the first cell of a sign. It has one caller, so that the compiler draws it into the
+// loop; the look-ups below are for the cells that follow.)
 pub fn word_of(cell: u8) -> u64
     ensures { λ r. ⌜ r ≡ wordOf cell ⌝ }
 {
@@ -98,6 +100,33 @@ cat <<'TEXT'
         _ => NOTHING,
     }
 }
+TEXT
+
+# A look-up of one field, for the cells that follow: NAME, its column of the cells' lines, and what it is.
+field() {
+    cat <<TEXT
+
+// $3
+pub fn $1(cell: u8) -> u32
+    ensures { λ r. ⌜ r ≡ $4 (wordOf cell) ⌝ }
+{
+    match cell {
+TEXT
+    printf '%s\n' "$cells" | awk -F '\t' -v column="$2" -v only="${5-}" '
+    $1 != "two" && $column != "none" && (only == "" || $only != "none") { print "        D" $2 " => " $column ", // " $9 }'
+    cat <<'TEXT'
+        _ => NO_POINT,
+    }
+}
+TEXT
+}
+
+field capital_of 5 'The capital of a letter, or NO_POINT.' capitalIn
+field figure_of 6 'The digit of a cell, or NO_POINT.' figureIn
+field lower_of 7 'The digit of a cell as a lower digit, or NO_POINT.' lowerIn
+field letter_of 4 'The letter of a cell that is a digit too, a to j, or NO_POINT.' letterIn 6
+
+cat <<'TEXT'
 
 // Two cells as one number.
 const CELL_PLACES: usize = 64;

@@ -9,7 +9,7 @@ use native.Mathlib.Omega.{arith}
 use native.Mathlib.Nat.{not-suc-le-zero, le-of-suc-le-suc}
 use lib.Dec.{T, eqb, leb, ltb, ltb→lt, eqb→eq}
 use lib.ListN.{length, getD, List·getD-eq-default}
-use borrow.Author.Tests.{eq-eqb, ne-eqb, lt-ltb, le-ltb, le-leb, lt-leb}
+use borrow.Author.Tests.{eq-eqb, ne-eqb, lt-ltb, le-ltb, le-leb, lt-leb, not-true}
 use Rattle.rules.specs.Cells.{Row, dots, lastCell}
 use Rattle.rules.specs.Pairs.{kinds}
 use Rattle.rules.proofs.Finite.{below, at-below, and-false, le-or-lt, implies, T-of-eqb}
@@ -22,7 +22,7 @@ use Rattle.signs.specs.Modes as mode
 use Rattle.signs.specs.Modes.{modeOf, modeCount}
 use Rattle.signs.specs.Acts as act
 use Rattle.signs.specs.Deeds.{deeds}
-use Rattle.signs.specs.Fields.{deedOf, classIn, pointIn, capitalIn, figureIn, lowerIn, kindIn, thenIn, usualIn, noCell, cellOf}
+use Rattle.signs.specs.Fields.{deedOf, classIn, pointIn, capitalIn, figureIn, lowerIn, letterIn, kindIn, thenIn, usualIn, noCell, cellOf}
 use Rattle.signs.specs.Words.{words, wordOf, twoOf}
 use Rattle.signs.specs.Readings.{noPoint, Reading, reads, aMark, one, onceList, digitCell, capitalModes, capitalLetter, capitalBy, numberBy, percentBy, innerQuotes, longerBy, prefixBy, askList, askedBy, readingOf, byWord, openerOf, closerOf, markStep, stepOf, stepAt}
 use Rattle.signs.specs.Readings as reading
@@ -60,10 +60,24 @@ module _ (r : Row) (n : ℕ) where
       ⊎-elim (λ h. ap wordOf (cell-low l h))
       (λ h. List·getD-eq-default words 0 {n = getD r n 0} h ∙ ap wordOf (cell-high l h)) (le-or-lt (getD r n 0) lastCell)
 
--- the word of a byte that is none of the cells
-pub no-word : (c : ℕ) → Rest Unit (upto 64) c → 0 ≡ wordOf c
+-- a byte that is no cell has no word
+past-words : (c : ℕ) → noCell < suc c → wordOf c ≡ 0
 unfolding words
-no-word c r = sym (List·getD-eq-default words 0 {n = c} (none-below 64 c (rest-none Unit (upto 64) c r .1)))
+past-words c l = List·getD-eq-default words 0 {n = c} (omega arith)
+
+pub no-word : (c : ℕ) → Rest Unit (upto 64) c → 0 ≡ wordOf c
+no-word c r = sym (past-words c (omega (arith, none-below 64 c (rest-none Unit (upto 64) c r .1))))
+
+-- a field of a cell that is none of the keys: those that have it are all among them
+pub no-field : (g : ℕ → ℕ) → g 0 ≡ 0 → (ks : List ℕ) → T (below (λ c. among ks c || eqb (g (wordOf c)) 0) noCell) → (c : ℕ) → Rest Unit ks c
+    → 0 ≡ g (wordOf c)
+no-field g z ks t c r =
+    ⊎-elim (λ l. go (among ks c) (rest-none Unit ks c r .1) (at-below (λ c. among ks c || eqb (g (wordOf c)) 0) noCell t c l))
+    (λ l. sym (ap g (past-words c l) ∙ z)) (le-or-lt (suc c) noCell)
+  where
+    go : (b : Bool) → b ≡ false → T (b || eqb (g (wordOf c)) 0) → 0 ≡ g (wordOf c)
+    go true e t = absurd (subst T e tt)
+    go false e t = sym (eqb→eq (g (wordOf c)) 0 t)
 
 -- THE MODES AT REST
 abbrev pub owes : List ℕ
@@ -169,17 +183,19 @@ module _ (at o d y z : ℕ) where
 
 -- A LONGER SIGN
 module _ (at o d x y z : ℕ) where
-  pub separated-letter : d ≡ act.separates → (p f : ℕ) → f ≡ figureIn (wordOf y) → (f ≡ noPoint → ⊥) → p ≡ pointIn (wordOf y)
+  pub separated-letter : d ≡ act.separates → digitCell y ≡ true → (p : ℕ) → p ≡ letterIn (wordOf y)
       → variant.Sign noPoint p (at + 2) mode.mixed o ≡ stepOf at o (prefixBy d x y z)
   unfolding prefixBy
-  separated-letter q p f e n h = rw (eq-eqb d act.separates q, ne-eqb (figureIn (wordOf y)) noPoint (λ g. n (e ∙ g)), h)
+  separated-letter q t p h =
+      ap (λ (n : ℕ). variant.Sign noPoint n (at + 2) mode.mixed o) (h ∙ ap (λ (b : Bool). cond b 0 (pointIn (wordOf y))) (not-true (eqb (figureIn (wordOf y)) noPoint) t))
+      ∙ sym (rw (eq-eqb d act.separates q, t))
 
   -- what is known once it is no separated letter
   abbrev pub Longer : Type 0
   Longer = (eqb d act.separates && digitCell y) ≡ false
 
-  pub no-digit : (f : ℕ) → f ≡ figureIn (wordOf y) → f ≡ noPoint → Longer
-  no-digit f e n = rw (eq-eqb (figureIn (wordOf y)) noPoint (sym e ∙ n)) (and-false (eqb d act.separates))
+  pub no-digit : digitCell y ≡ false → Longer
+  no-digit t = ap (λ (b : Bool). eqb d act.separates && b) t ∙ and-false (eqb d act.separates)
 
   pub no-separator : (d ≡ act.separates → ⊥) → Longer
   no-separator n = rw (ne-eqb d act.separates n)

@@ -100,6 +100,10 @@ figureIn w = w / figureAt % 64
 abbrev pub lowerIn : ℕ → ℕ
 lowerIn w = w / lowerAt % 64
 
+-- its letter, where it is the cell of a digit too
+abbrev pub letterIn : ℕ → ℕ
+letterIn w = cond (eqb (figureIn w) 0) 0 (pointIn w)
+
 abbrev pub kindIn : ℕ → ℕ
 kindIn w = w / kindAt % 16
 

@@ -38,6 +38,7 @@ use crate::UNDER;
 use crate::USUAL_AT;
 use crate::WHOLE2;
 ghost use mathlib.Core.Path.{_≡_};
+ghost use Rattle.signs.specs.Fields.{capitalIn, figureIn, lowerIn, letterIn};
 ghost use Rattle.signs.specs.Words.{wordOf, twoOf};
 
 // The cells, by their dots.
@@ -406,7 +407,8 @@ const W13456: u64 = AS_OTHER_LETTER + POINT_AT * 0x79 + CAPITAL_AT * 0x59; // Y 
 
 const W23456: u64 = AS_OTHER_LETTER + POINT_AT * 0xfa + CAPITAL_AT * 0xda; // Ú ú
 
-// The word of a cell; that of a byte that is none begins no sign.
+// The word of a cell; that of a byte that is none begins no sign. (For the first cell of a sign. It has one caller, so that the compiler draws it into the
+// loop; the look-ups below are for the cells that follow.)
 pub fn word_of(cell: u8) -> u64
     ensures { λ r. ⌜ r ≡ wordOf cell ⌝ }
 {
@@ -476,6 +478,105 @@ pub fn word_of(cell: u8) -> u64
         D23456 => W23456,
         D123456 => NOTHING,
         _ => NOTHING,
+    }
+}
+
+// The capital of a letter, or NO_POINT.
+pub fn capital_of(cell: u8) -> u32
+    ensures { λ r. ⌜ r ≡ capitalIn (wordOf cell) ⌝ }
+{
+    match cell {
+        D1 => 0x41, // 1 A a ª
+        D12 => 0x42, // 2 B b
+        D13 => 0x4b, // K k
+        D123 => 0x4c, // L l
+        D14 => 0x43, // 3 C c
+        D24 => 0x49, // 9 I i
+        D124 => 0x46, // 6 F f
+        D34 => 0xcd, // Í í
+        D134 => 0x4d, // M m
+        D234 => 0x53, // S s
+        D1234 => 0x50, // P p
+        D15 => 0x45, // 5 E e
+        D125 => 0x48, // 8 H h
+        D135 => 0x4f, // O o º
+        D1235 => 0x52, // R r
+        D145 => 0x44, // 4 D d
+        D245 => 0x4a, // 0 J j
+        D1245 => 0x47, // 7 G g
+        D1345 => 0x4e, // N n
+        D2345 => 0x54, // T t
+        D12345 => 0x51, // Q q
+        D136 => 0x55, // U u
+        D1236 => 0x56, // V v
+        D346 => 0xd3, // Ó ó
+        D1346 => 0x58, // X x
+        D2346 => 0xc9, // É é
+        D1256 => 0xdc, // Ü ü
+        D1356 => 0x5a, // Z z
+        D12356 => 0xc1, // Á á
+        D2456 => 0x57, // W w
+        D12456 => 0xd1, // Ñ ñ
+        D13456 => 0x59, // Y y
+        D23456 => 0xda, // Ú ú
+        _ => NO_POINT,
+    }
+}
+
+// The digit of a cell, or NO_POINT.
+pub fn figure_of(cell: u8) -> u32
+    ensures { λ r. ⌜ r ≡ figureIn (wordOf cell) ⌝ }
+{
+    match cell {
+        D1 => 0x31, // 1 A a ª
+        D12 => 0x32, // 2 B b
+        D14 => 0x33, // 3 C c
+        D24 => 0x39, // 9 I i
+        D124 => 0x36, // 6 F f
+        D15 => 0x35, // 5 E e
+        D125 => 0x38, // 8 H h
+        D145 => 0x34, // 4 D d
+        D245 => 0x30, // 0 J j
+        D1245 => 0x37, // 7 G g
+        _ => NO_POINT,
+    }
+}
+
+// The digit of a cell as a lower digit, or NO_POINT.
+pub fn lower_of(cell: u8) -> u32
+    ensures { λ r. ⌜ r ≡ lowerIn (wordOf cell) ⌝ }
+{
+    match cell {
+        D2 => 0x31, // , 1
+        D23 => 0x32, // 2 ;
+        D25 => 0x33, // 3 :
+        D35 => 0x39, // 9 emphasis opens emphasis closes
+        D235 => 0x36, // ! 6 ¡
+        D26 => 0x35, // 5 ? ¿
+        D236 => 0x38, // 8 « »
+        D256 => 0x34, // 4
+        D356 => 0x30, // 0
+        D2356 => 0x37, // 7 =
+        _ => NO_POINT,
+    }
+}
+
+// The letter of a cell that is a digit too, a to j, or NO_POINT.
+pub fn letter_of(cell: u8) -> u32
+    ensures { λ r. ⌜ r ≡ letterIn (wordOf cell) ⌝ }
+{
+    match cell {
+        D1 => 0x61, // 1 A a ª
+        D12 => 0x62, // 2 B b
+        D14 => 0x63, // 3 C c
+        D24 => 0x69, // 9 I i
+        D124 => 0x66, // 6 F f
+        D15 => 0x65, // 5 E e
+        D125 => 0x68, // 8 H h
+        D145 => 0x64, // 4 D d
+        D245 => 0x6a, // 0 J j
+        D1245 => 0x67, // 7 G g
+        _ => NO_POINT,
     }
 }
 

@@ -337,7 +337,7 @@ fn mark(kind: usize, next: usize, opened: usize) -> Step
 fn is_digit(cell: u8) -> bool
     ensures { λ r. ⌜ r ≡ digitCell cell ⌝ }
 {
-    figure_in(cells::word_of(cell)) != NO_POINT
+    cells::figure_of(cell) != NO_POINT
 }
 
 // After 46: a letter is a capital, and the deed says the mode after it; 46 again and a letter begin a run of capitals; 2 makes >.
@@ -347,7 +347,7 @@ fn capital(row: &[u8], at: usize, deed: usize, opened: usize) -> Step
 {
     let second = cell_at(row, at + 1);
     if second == D46 {
-        let first = capital_in(cells::word_of(cell_at(row, at + 2)));
+        let first = cells::capital_of(cell_at(row, at + 2));
         if first == NO_POINT {
             return Step::Nothing;
         }
@@ -362,7 +362,7 @@ fn capital(row: &[u8], at: usize, deed: usize, opened: usize) -> Step
         }
         return sign(GREATER, at + 2, FREE, opened);
     }
-    let letter = capital_in(cells::word_of(second));
+    let letter = cells::capital_of(second);
     if letter == NO_POINT {
         return Step::Nothing;
     }
@@ -379,12 +379,12 @@ fn number(row: &[u8], at: usize, opened: usize) -> Step
     requires { ⌜ (length (now row) ≤ longestRow) × (at < length (now row)) ⌝ }
     ensures { λ r. ⌜ r ≡ stepOf at opened (numberBy (wordOf (cellOf (now (row .entry)) (at + 1)))) ⌝ }
 {
-    let word = cells::word_of(cell_at(row, at + 1));
-    let figure = figure_in(word);
+    let second = cell_at(row, at + 1);
+    let figure = cells::figure_of(second);
     if figure != NO_POINT {
         return sign(figure, at + 2, NUM, opened);
     }
-    let lower = lower_in(word);
+    let lower = cells::lower_of(second);
     if lower != NO_POINT {
         return sign(lower, at + 2, LOW, opened);
     }
@@ -410,9 +410,8 @@ fn prefixed(row: &[u8], at: usize, deed: usize, opened: usize) -> Step
     let first = cell_at(row, at);
     let second = cell_at(row, at + 1);
     if deed == SEPARATES {
-        let word = cells::word_of(second);
-        if figure_in(word) != NO_POINT {
-            return sign(point_in(word), at + 2, MIXED, opened);
+        if is_digit(second) {
+            return sign(cells::letter_of(second), at + 2, MIXED, opened);
         }
     }
     if first == D456 {

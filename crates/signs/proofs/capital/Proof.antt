@@ -10,9 +10,8 @@ use Rattle.signs.proofs.capital.Statement.{statement}
 use Rattle.signs.proofs.capital.Tie as tie
 use Rattle.signs.proofs.capital.Reads as reads
 use Rattle.signs.proofs.capital.Lts as lts
-use Rattle.signs.proofs.capital_in.Reads as capital-in-reads
 use Rattle.signs.proofs.cell_at.Reads as cell-at-reads
-use Rattle.signs.proofs.cells.word_of.Reads as word-of-reads
+use Rattle.signs.proofs.cells.capital_of.Reads as capital-of-reads
 use Rattle.signs.proofs.sign.Reads as sign-reads
 
 -- the second cell and the third
@@ -24,17 +23,17 @@ Z s = cellOf (s .args .row .now) (s .args .at + 2)
 
 -- after 46-46, once the letter is known
 abbrev R : Type 0
-R = tie.After-capital-in
+R = tie.After-capital-of
 
 abbrev of-run : R → tie.Start
-of-run k = k .before .before .before .before .before .before
+of-run k = k .before .before .before .before .before
 
 again : (k : R) → Y (of-run k) ≡ dots 46
 unfolding dots
-again k = sym (k .before .before .before .before .cell-at .ensures) ∙ k .before .before .before .if1 .taken
+again k = sym (k .before .before .before .cell-at .ensures) ∙ k .before .before .if1 .taken
 
-first-is : (k : R) → k .capital-in .result ≡ capitalIn (wordOf (Z (of-run k)))
-first-is k = k .capital-in .ensures ∙ ap capitalIn (k .before .word-of .ensures ∙ ap wordOf (k .before .before .cell-at2 .ensures))
+first-is : (k : R) → k .capital-of .result ≡ capitalIn (wordOf (Z (of-run k)))
+first-is k = k .capital-of .ensures ∙ ap (λ (n : ℕ). capitalIn (wordOf n)) (k .before .cell-at2 .ensures)
 
 -- no second 46
 abbrev N : Type 0
@@ -49,17 +48,17 @@ not-again e q = e .if1 .left (e .before .cell-at .ensures ∙ q)
 
 -- once the letter after one 46 is known
 abbrev L : Type 0
-L = tie.After-capital-in2
+L = tie.After-capital-of2
 
 abbrev of-letter : L → tie.Start
-of-letter k = of-one (k .before .before .before)
+of-letter k = of-one (k .before .before)
 
 no-greater : (k : L) → Y (of-letter k) ≡ dots 2 → ⊥
 unfolding dots
-no-greater k q = k .before .before .if4 .left (k .before .before .before .before .cell-at .ensures ∙ q)
+no-greater k q = k .before .if4 .left (k .before .before .before .cell-at .ensures ∙ q)
 
-letter-is : (k : L) → k .capital-in2 .result ≡ capitalIn (wordOf (Y (of-letter k)))
-letter-is k = k .capital-in2 .ensures ∙ ap capitalIn (k .before .word-of2 .ensures ∙ ap wordOf (k .before .before .before .before .cell-at .ensures))
+letter-is : (k : L) → k .capital-of2 .result ≡ capitalIn (wordOf (Y (of-letter k)))
+letter-is k = k .capital-of2 .ensures ∙ ap (λ (n : ℕ). capitalIn (wordOf n)) (k .before .before .before .cell-at .ensures)
 
 greater-is : (k : tie.Then4) → Y (of-one (k .before)) ≡ dots 2
 unfolding dots
@@ -77,17 +76,14 @@ add-cell-at-2 c = search needs
 cell-at-requires-2 : tie.Need-cell-at-requires-2
 cell-at-requires-2 c κs = search needs
 
-word-of-requires : tie.Need-word-of-requires
-word-of-requires c κs = search needs
-
-capital-in-requires : tie.Need-capital-in-requires
-capital-in-requires c κs = search needs
+capital-of-requires : tie.Need-capital-of-requires
+capital-of-requires c κs = search needs
 
 returns : tie.Need-returns
 returns c =
     let k = c .before in
     let s = of-run k in
-    run-none (s .args .at) (s .args .opened) (s .args .deed) (Y s) (Z s) (again k) (k .capital-in .result) (first-is k) (c .if2 .taken)
+    run-none (s .args .at) (s .args .opened) (s .args .deed) (Y s) (Z s) (again k) (k .capital-of .result) (first-is k) (c .if2 .taken)
 
 add-sign : tie.Need-add-sign
 add-sign c = search needs
@@ -100,13 +96,13 @@ returns-2 c =
     let k = c .before .before .before in
     let s = of-run k in
     c .sign .ensures
-    ∙ run-first (s .args .at) (s .args .opened) (s .args .deed) (Y s) (Z s) (again k) (k .capital-in .result) (first-is k) (c .before .before .if2 .left) (c .before .if3 .taken)
+    ∙ run-first (s .args .at) (s .args .opened) (s .args .deed) (Y s) (Z s) (again k) (k .capital-of .result) (first-is k) (c .before .before .if2 .left) (c .before .if3 .taken)
 
 returns-3 : tie.Need-returns-3
 returns-3 c =
     let k = c .before .before in
     let s = of-run k in
-    run-barred (s .args .at) (s .args .opened) (s .args .deed) (Y s) (Z s) (again k) (k .capital-in .result) (first-is k) (c .before .if2 .left) (c .if3 .left)
+    run-barred (s .args .at) (s .args .opened) (s .args .deed) (Y s) (Z s) (again k) (k .capital-of .result) (first-is k) (c .before .if2 .left) (c .if3 .left)
 
 returns-4 : tie.Need-returns-4
 returns-4 c =
@@ -127,17 +123,14 @@ returns-5 c =
     c .sign2 .ensures
     ∙ greater (s .args .at) (s .args .opened) (s .args .deed) (Y s) (Z s) (not-again e) (greater-is (c .before .before)) (c .before .if5 .left)
 
-word-of-requires-2 : tie.Need-word-of-requires-2
-word-of-requires-2 c κs = search needs
-
-capital-in-requires-2 : tie.Need-capital-in-requires-2
-capital-in-requires-2 c κs = search needs
+capital-of-requires-2 : tie.Need-capital-of-requires-2
+capital-of-requires-2 c κs = search needs
 
 returns-6 : tie.Need-returns-6
 returns-6 c =
     let k = c .before in
     let s = of-letter k in
-    letter-none (s .args .at) (s .args .opened) (s .args .deed) (Y s) (Z s) (not-again (k .before .before .before)) (no-greater k) (k .capital-in2 .result) (letter-is k) (c .if6 .taken)
+    letter-none (s .args .at) (s .args .opened) (s .args .deed) (Y s) (Z s) (not-again (k .before .before)) (no-greater k) (k .capital-of2 .result) (letter-is k) (c .if6 .taken)
 
 add-sign-3 : tie.Need-add-sign-3
 add-sign-3 c = search needs
@@ -162,27 +155,27 @@ returns-7 c =
     let k = c .before .before .before in
     let s = of-letter k in
     c .sign3 .ensures
-    ∙ letter-begins (s .args .at) (s .args .opened) (s .args .deed) (Y s) (Z s) (not-again (k .before .before .before)) (no-greater k) (k .capital-in2 .result) (letter-is k) (c .before .before .if6 .left) (c .before .match .keys1)
+    ∙ letter-begins (s .args .at) (s .args .opened) (s .args .deed) (Y s) (Z s) (not-again (k .before .before)) (no-greater k) (k .capital-of2 .result) (letter-is k) (c .before .before .if6 .left) (c .before .match .keys1)
 
 returns-8 : tie.Need-returns-8
 returns-8 c =
     let k = c .before .before .before in
     let s = of-letter k in
     c .sign4 .ensures
-    ∙ letter-mixed (s .args .at) (s .args .opened) (s .args .deed) (Y s) (Z s) (not-again (k .before .before .before)) (no-greater k) (k .capital-in2 .result) (letter-is k) (c .before .before .if6 .left) (c .before .match .keys2)
+    ∙ letter-mixed (s .args .at) (s .args .opened) (s .args .deed) (Y s) (Z s) (not-again (k .before .before)) (no-greater k) (k .capital-of2 .result) (letter-is k) (c .before .before .if6 .left) (c .before .match .keys2)
 
 returns-9 : tie.Need-returns-9
 returns-9 c =
     let k = c .before .before in
     let s = of-letter k in
-    letter-barred (s .args .at) (s .args .opened) (s .args .deed) (Y s) (Z s) (not-again (k .before .before .before)) (no-greater k) (k .capital-in2 .result) (letter-is k) (c .before .if6 .left) (c .match .keys3)
+    letter-barred (s .args .at) (s .args .opened) (s .args .deed) (Y s) (Z s) (not-again (k .before .before)) (no-greater k) (k .capital-of2 .result) (letter-is k) (c .before .if6 .left) (c .match .keys3)
 
 returns-10 : tie.Need-returns-10
 returns-10 c =
     let k = c .before .before .before in
     let s = of-letter k in
     c .sign5 .ensures
-    ∙ letter-owes (s .args .at) (s .args .opened) (s .args .deed) (Y s) (Z s) (not-again (k .before .before .before)) (no-greater k) (k .capital-in2 .result) (letter-is k) (c .before .before .if6 .left) (c .before .match .rest)
+    ∙ letter-owes (s .args .at) (s .args .opened) (s .args .deed) (Y s) (Z s) (not-again (k .before .before)) (no-greater k) (k .capital-of2 .result) (letter-is k) (c .before .before .if6 .left) (c .before .match .rest)
 
 pub capital-spec : {M : Type 1} → statement M
 capital-spec =
@@ -192,8 +185,7 @@ capital-spec =
     cell-at-requires
     add-cell-at-2
     cell-at-requires-2
-    word-of-requires
-    capital-in-requires
+    capital-of-requires
     returns
     add-sign
     sign-requires
@@ -203,8 +195,7 @@ capital-spec =
     add-sign-2
     sign-requires-2
     returns-5
-    word-of-requires-2
-    capital-in-requires-2
+    capital-of-requires-2
     returns-6
     add-sign-3
     sign-requires-3

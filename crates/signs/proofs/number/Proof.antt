@@ -10,23 +10,22 @@ use Rattle.signs.proofs.number.Tie as tie
 use Rattle.signs.proofs.number.Reads as reads
 use Rattle.signs.proofs.number.Lts as lts
 use Rattle.signs.proofs.cell_at.Reads as cell-at-reads
-use Rattle.signs.proofs.cells.word_of.Reads as word-of-reads
-use Rattle.signs.proofs.figure_in.Reads as figure-in-reads
-use Rattle.signs.proofs.lower_in.Reads as lower-in-reads
+use Rattle.signs.proofs.cells.figure_of.Reads as figure-of-reads
+use Rattle.signs.proofs.cells.lower_of.Reads as lower-of-reads
 use Rattle.signs.proofs.sign.Reads as sign-reads
 
 -- once the digit of the second cell is known
 abbrev K : Type 0
-K = tie.After-figure-in
+K = tie.After-figure-of
 
 abbrev second : K → ℕ
-second k = wordOf (cellOf (k .before .before .before .before .args .row .now) (k .before .before .before .before .args .at + 1))
+second k = wordOf (cellOf (k .before .before .before .args .row .now) (k .before .before .before .args .at + 1))
 
-word-is : (k : K) → k .before .word-of .result ≡ second k
-word-is k = k .before .word-of .ensures ∙ ap wordOf (k .before .before .cell-at .ensures)
+figure-is : (k : K) → k .figure-of .result ≡ figureIn (second k)
+figure-is k = k .figure-of .ensures ∙ ap (λ (n : ℕ). figureIn (wordOf n)) (k .before .cell-at .ensures)
 
-figure-is : (k : K) → k .figure-in .result ≡ figureIn (second k)
-figure-is k = k .figure-in .ensures ∙ ap figureIn (word-is k)
+lower-is : (l : tie.After-lower-of) → l .lower-of .result ≡ lowerIn (second (l .before .before))
+lower-is l = l .lower-of .ensures ∙ ap (λ (n : ℕ). lowerIn (wordOf n)) (l .before .before .before .cell-at .ensures)
 
 add-cell-at : tie.Need-add-cell-at
 add-cell-at c = search needs
@@ -34,11 +33,8 @@ add-cell-at c = search needs
 cell-at-requires : tie.Need-cell-at-requires
 cell-at-requires c κs = search needs
 
-word-of-requires : tie.Need-word-of-requires
-word-of-requires c κs = search needs
-
-figure-in-requires : tie.Need-figure-in-requires
-figure-in-requires c κs = search needs
+figure-of-requires : tie.Need-figure-of-requires
+figure-of-requires c κs = search needs
 
 add-sign : tie.Need-add-sign
 add-sign c = search needs
@@ -49,11 +45,11 @@ sign-requires c κs = search needs
 returns : tie.Need-returns
 returns c =
     let k = c .before .before in
-    let s = k .before .before .before .before in
-    c .sign .ensures ∙ number-figure (s .args .at) (s .args .opened) (second k) (k .figure-in .result) (figure-is k) (c .before .if1 .taken)
+    let s = k .before .before .before in
+    c .sign .ensures ∙ number-figure (s .args .at) (s .args .opened) (second k) (k .figure-of .result) (figure-is k) (c .before .if1 .taken)
 
-lower-in-requires : tie.Need-lower-in-requires
-lower-in-requires c κs = search needs
+lower-of-requires : tie.Need-lower-of-requires
+lower-of-requires c κs = search needs
 
 add-sign-2 : tie.Need-add-sign-2
 add-sign-2 c = search needs
@@ -65,18 +61,18 @@ returns-2 : tie.Need-returns-2
 returns-2 c =
     let l = c .before .before in
     let k = l .before .before in
-    let s = k .before .before .before .before in
+    let s = k .before .before .before in
     c .sign2 .ensures
-    ∙ number-lower (s .args .at) (s .args .opened) (second k) (k .figure-in .result) (figure-is k) (l .before .if1 .left) (l .lower-in .result)
-    (l .lower-in .ensures ∙ ap lowerIn (word-is k)) (c .before .if2 .taken)
+    ∙ number-lower (s .args .at) (s .args .opened) (second k) (k .figure-of .result) (figure-is k) (l .before .if1 .left) (l .lower-of .result) (lower-is l)
+    (c .before .if2 .taken)
 
 returns-3 : tie.Need-returns-3
 returns-3 c =
     let l = c .before in
     let k = l .before .before in
-    let s = k .before .before .before .before in
-    number-none (s .args .at) (s .args .opened) (second k) (k .figure-in .result) (figure-is k) (l .before .if1 .left) (l .lower-in .result)
-    (l .lower-in .ensures ∙ ap lowerIn (word-is k)) (c .if2 .left)
+    let s = k .before .before .before in
+    number-none (s .args .at) (s .args .opened) (second k) (k .figure-of .result) (figure-is k) (l .before .if1 .left) (l .lower-of .result) (lower-is l)
+    (c .if2 .left)
 
 pub number-spec : {M : Type 1} → statement M
 number-spec =
@@ -84,12 +80,11 @@ number-spec =
     (tie.spec
     add-cell-at
     cell-at-requires
-    word-of-requires
-    figure-in-requires
+    figure-of-requires
     add-sign
     sign-requires
     returns
-    lower-in-requires
+    lower-of-requires
     add-sign-2
     sign-requires-2
     returns-2

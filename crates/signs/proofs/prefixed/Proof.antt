@@ -5,8 +5,9 @@ use mathlib.Core.Logic.{⊎-elim}
 use Prim.Native.Nat.{ℕ, _+_}
 use lib.Dec.{eqb}
 use Rattle.rules.specs.Cells.{dots}
-use Rattle.signs.specs.Fields.{pointIn, figureIn, cellOf}
+use Rattle.signs.specs.Fields.{letterIn, cellOf}
 use Rattle.signs.specs.Words.{wordOf, twoOf}
+use Rattle.signs.specs.Readings.{digitCell}
 use Rattle.signs.proofs.Cases.{separated-letter, Longer, no-digit, no-separator, is-percent, is-quote, two-none, two-sign, second-differs, first-differs}
 use borrow.Author.Needs.{needs}
 use Rattle.signs.proofs.prefixed.Statement.{statement}
@@ -14,12 +15,11 @@ use Rattle.signs.proofs.prefixed.Tie as tie
 use Rattle.signs.proofs.prefixed.Reads as reads
 use Rattle.signs.proofs.prefixed.Lts as lts
 use Rattle.signs.proofs.cell_at.Reads as cell-at-reads
+use Rattle.signs.proofs.cells.letter_of.Reads as letter-of-reads
 use Rattle.signs.proofs.cells.two_cells.Reads as two-cells-reads
-use Rattle.signs.proofs.cells.word_of.Reads as word-of-reads
-use Rattle.signs.proofs.figure_in.Reads as figure-in-reads
+use Rattle.signs.proofs.is_digit.Reads as is-digit-reads
 use Rattle.signs.proofs.mark.Reads as mark-reads
 use Rattle.signs.proofs.percent.Reads as percent-reads
-use Rattle.signs.proofs.point_in.Reads as point-in-reads
 use Rattle.signs.proofs.sign.Reads as sign-reads
 
 -- the cells in view
@@ -45,8 +45,8 @@ x-is k = k .before .cell-at .ensures
 y-is : (k : K) → k .cell-at2 .result ≡ Y (start k)
 y-is k = k .cell-at2 .ensures
 
-figure-is : (k : tie.After-figure-in) → k .figure-in .result ≡ figureIn (wordOf (Y (start (k .before .before .before))))
-figure-is k = k .figure-in .ensures ∙ ap figureIn (k .before .word-of .ensures ∙ ap wordOf (y-is (k .before .before .before)))
+digit-is : (k : tie.After-is-digit) → k .is-digit .result ≡ digitCell (Y (start (k .before .before)))
+digit-is k = k .is-digit .ensures ∙ ap digitCell (y-is (k .before .before))
 
 -- where the ways meet: it is no separated letter; no % either; no quotation mark either
 longer : (j : tie.Joined1) → let s = start (j .before) in Longer (s .args .at) (s .args .opened) (s .args .deed) (X s) (Y s) (Z s)
@@ -54,8 +54,8 @@ longer j =
     let k = j .before in
     let s = start k in
     ⊎-elim
-    (λ w. no-digit (s .args .at) (s .args .opened) (s .args .deed) (X s) (Y s) (Z s) (w .2 .result)
-    (figure-is (record { before = record { before = record { before = k; if1 = w .0 }; word-of = w .1 }; figure-in = w .2 })) (w .3 .left))
+    (λ w. no-digit (s .args .at) (s .args .opened) (s .args .deed) (X s) (Y s) (Z s)
+    (sym (digit-is (record { before = record { before = k; if1 = w .0 }; is-digit = w .1 })) ∙ w .2 .left))
     (λ w. no-separator (s .args .at) (s .args .opened) (s .args .deed) (X s) (Y s) (Z s) (w .left)) (j .if1 .came)
 
 no-percent : (j : tie.Joined3) → let s = start (j .before .before) in (eqb (X s) (dots 456) && eqb (Y s) (dots 356)) ≡ false
@@ -88,14 +88,11 @@ add-cell-at c = search needs
 cell-at-requires-2 : tie.Need-cell-at-requires-2
 cell-at-requires-2 c κs = search needs
 
-word-of-requires : tie.Need-word-of-requires
-word-of-requires c κs = search needs
+is-digit-requires : tie.Need-is-digit-requires
+is-digit-requires c κs = search needs
 
-figure-in-requires : tie.Need-figure-in-requires
-figure-in-requires c κs = search needs
-
-point-in-requires : tie.Need-point-in-requires
-point-in-requires c κs = search needs
+letter-of-requires : tie.Need-letter-of-requires
+letter-of-requires c κs = search needs
 
 add-sign : tie.Need-add-sign
 add-sign c = search needs
@@ -105,12 +102,12 @@ sign-requires c κs = search needs
 
 returns : tie.Need-returns
 returns c =
-    let p = c .before in
-    let f = p .before .before in
-    let s = start (f .before .before .before) in
+    let l = c .before in
+    let k = l .before .before in
+    let s = start (k .before .before) in
     c .sign .ensures
-    ∙ separated-letter (s .args .at) (s .args .opened) (s .args .deed) (X s) (Y s) (Z s) (f .before .before .if1 .taken) (p .point-in .result) (f .figure-in .result) (figure-is f) (p .before .if2 .taken)
-    (p .point-in .ensures ∙ ap pointIn (f .before .word-of .ensures ∙ ap wordOf (y-is (f .before .before .before))))
+    ∙ separated-letter (s .args .at) (s .args .opened) (s .args .deed) (X s) (Y s) (Z s) (k .before .if1 .taken) (sym (digit-is k) ∙ l .before .if2 .taken) (l .letter-of .result)
+    (l .letter-of .ensures ∙ ap (λ (n : ℕ). letterIn (wordOf n)) (y-is (k .before .before)))
 
 percent-requires : tie.Need-percent-requires
 percent-requires c κs = search needs
@@ -168,9 +165,8 @@ prefixed-spec =
     cell-at-requires
     add-cell-at
     cell-at-requires-2
-    word-of-requires
-    figure-in-requires
-    point-in-requires
+    is-digit-requires
+    letter-of-requires
     add-sign
     sign-requires
     returns
