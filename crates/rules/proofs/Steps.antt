@@ -36,7 +36,7 @@ sign-past s ss n f = go (eqb (k + n) 0) refl (leb k (k + n)) (le→leb k (k + n)
 
 module _ (tb : Table) (sane : Sane tb) (r : Row) (t : Text) (h : ReadsAs tb r t) where
   -- from place n on, these signs are left
-  abbrev Left : ℕ → List Sign → Type 0
+  abbrev pub Left : ℕ → List Sign → Type 0
   Left n ss = ((k : ℕ) → signAt (signsOf tb t) (n + k) ≡ signAt ss k) × (n + length (cellsOf ss) ≡ length r)
 
   left-on : (n : ℕ) (s : Sign) (ss : List Sign) → 1 ≤ length (s .taken) → Left n (s ∷ ss) → Left (n + length (s .taken)) ss
@@ -52,12 +52,12 @@ module _ (tb : Table) (sane : Sane tb) (r : Row) (t : Text) (h : ReadsAs tb r t)
       let e : signAt (signsOf tb t) n ≡ some s = ap (signAt (signsOf tb t)) (omega arith) ∙ l .0 0 in
       subst (λ (x : Option Sign). Stepped tb r n (shows (shownBy x n))) e (stepped t h)
 
-  walks : (n : ℕ) (ss : List Sign) → Filled tb sane ss → Left n ss → Walks tb r n (map (λ (s : Sign). s .shown) ss)
+  pub walks : (n : ℕ) (ss : List Sign) → Filled tb sane ss → Left n ss → Walks tb r n (map (λ (s : Sign). s .shown) ss)
   walks n [] f l = omega (arith, l .1)
   walks n (s ∷ ss) f l =
       (n + length (s .taken), step-here n s ss l, omega (arith, f .0), walks (n + length (s .taken)) ss (f .1) (left-on n s ss (f .0) l))
 
-joined-signs : (ss : List Sign) → joined (map (λ (s : Sign). s .shown) ss) ≡ printOf ss
+pub joined-signs : (ss : List Sign) → joined (map (λ (s : Sign). s .shown) ss) ≡ printOf ss
 joined-signs [] = refl
 joined-signs (s ∷ ss) = ap (λ (u : Text). s .shown ++ u) (joined-signs ss)
 

@@ -1,0 +1,109 @@
+-- From what a walk finds to the promises. In order: the row's refusals; the ends of `read`; the ends of `step`. All over plain values. Assumes nothing.
+use mathlib.Core.Path.{_≡_, refl, sym, ap, _∙_, subst}
+use mathlib.Core.List.{List}
+use mathlib.Core.Option.{Option, none, some}
+use Prim.Native.Nat.{ℕ, _+_, _≤_, _<_}
+use native.Mathlib.Omega.{arith}
+use native.Mathlib.Nat.{min-eq-left}
+use lib.ListN.{length}
+use Rattle.rules.specs.Cells.{Text, Row}
+use Rattle.rules.specs.Signs.{Sign, printOf}
+use Rattle.rules.specs.Rows.{Reads}
+use Rattle.rules.specs.Refusals.{tooLong, needsRoom, notACell, noText, longestText, longestRow, reported}
+use Rattle.rules.specs.Answers as rules
+use Rattle.rules.specs.Answers.{refuses, ProperRow, ReadsAs, RowRefused, long-row, not-a-cell, no-text, long-text, RowAnswer, text-needs-room}
+use Rattle.rules.specs.Screen.{signAt, shownBy, shows, Stepped, stepped, stayed}
+use Rattle.rules.specs.Castilian.{castilian}
+use Rattle.rules.proofs.Signs.{cells-of-text}
+use Rattle.rules.proofs.Castilian.{sane}
+use Rattle.rows.specs.Laid.{laid}
+use Rattle.signs.specs.Left.{left, points}
+use Rattle.reader.specs.Promise.{Read, done, refused, Shows, sign-there, no-sign-there, row-refused}
+use Rattle.reader.specs.Passes.{FirstHigh, RefusesRow, Seen, heldAfter}
+use Rattle.reader.specs.declared.Answer.{Answer}
+use Rattle.reader.specs.declared.Answer.the-variants.{Done, TooLong, NotACell, NoText, NeedsRoom}
+use Rattle.reader.specs.declared.Shown.the-variants as shown
+use Rattle.reader.proofs.Lending.{held-text}
+use Rattle.reader.proofs.Whole.{two-points-each, left-text, Told}
+
+-- THE ROW'S REFUSALS
+module _ (r : Row) where
+  pub row-long : (n : ℕ) → longestRow < length r → n ≡ reported (length r) → RefusesRow castilian r (TooLong n)
+  row-long n l e = (tooLong n, refl, subst (λ (k : ℕ). RowRefused castilian r (tooLong k)) (sym e) (long-row l))
+
+  module _ (short : length r ≤ longestRow) where
+    pub row-not-cells : (n : ℕ) → FirstHigh r n → n < length r → RefusesRow castilian r (NotACell n)
+    row-not-cells n f l = (notACell n, refl, not-a-cell n short l (f .there l) (f .below))
+
+    pub row-no-text : (n : ℕ) → FirstHigh r n → length r ≤ n → ((t : Text) → Reads castilian r t → ⊥) → RefusesRow castilian r NoText
+    row-no-text n f l none-reads = (noText, refl, no-text (record { short = short; cells = λ m h. f .below m (omega arith) }) none-reads)
+
+    -- a row that has a text is of cells
+    proper : (t : Text) → Reads castilian r t → ProperRow r
+    proper t e = record { short = short; cells = cells-of-text castilian sane t r e }
+
+    -- A ROW THAT IS READ: what a walk told of it
+    module _ {place c l p k : ℕ} (told : Told place (left 0 0 r) c l p k) where
+      abbrev text : Text
+      text = printOf (told .signs)
+
+      has : Reads castilian r text
+      has = left-text r (told .signs) (told .are) .0
+
+      pub row-long-text : longestText < c → RefusesRow castilian r (TooLong c)
+      row-long-text h =
+          let e : reported c ≡ c = min-eq-left (omega (arith, two-points-each castilian sane text r has, told .count)) in (
+            tooLong c,
+            refl,
+            subst (λ (n : ℕ). RowRefused castilian r (tooLong n)) (ap reported (sym (told .count)) ∙ e)
+                (long-text text (proper text has) has (omega (arith, told .count))),
+          )
+
+      accepted : c ≤ longestText → ReadsAs castilian r text
+      accepted h = record { proper = proper text has; reads = has; short = omega (arith, told .count) }
+
+      -- THE ENDS OF `read` that are no refusal of the row
+      pub read-cramped : (lent new : List ℕ) → new ≡ lent → c ≤ longestText → length lent < c → Read castilian r lent (NeedsRoom c) new
+      read-cramped lent new same h j =
+          subst (Read castilian r lent (NeedsRoom c)) (sym same)
+          (refused (NeedsRoom c) (needsRoom c) refl
+          (subst (λ (n : ℕ). RowAnswer castilian r (length lent) (refuses (needsRoom n))) (sym (told .count))
+          (text-needs-room text (accepted h) (omega (arith, told .count)))))
+
+      pub read-done : (lent new : List ℕ) → new ≡ heldAfter (left 0 0 r) lent → c ≤ longestText → c ≤ length lent → Read castilian r lent (Done c) new
+      read-done lent new is h j =
+          subst (Read castilian r lent (Done c))
+          (sym (is ∙ ap (λ (x : Option (List Sign)). heldAfter x lent) (told .are) ∙ held-text (told .signs) lent (omega (arith, told .count))))
+          (subst (λ (n : ℕ). Read castilian r lent (Done n) (laid text lent)) (sym (told .count))
+          (done text (rules.read text (accepted h) (omega (arith, told .count)))))
+
+      -- THE ENDS OF `step` that are no refusal
+      at-place : c ≤ longestText → (x : Option Sign) → signAt (told .signs) place ≡ x → Stepped castilian r place (shows (shownBy x place))
+      at-place h x e =
+          subst (λ (y : Option Sign). Stepped castilian r place (shows (shownBy y place)))
+          (ap (λ (ss : List Sign). signAt ss place) (left-text r (told .signs) (told .are) .1) ∙ e) (stepped text (accepted h))
+
+      pub step-still : c ≤ longestText → k ≡ place → Shows castilian r place shown.Still
+      step-still h e = go (signAt (told .signs) place) refl (told .seen)
+        where
+          go : (x : Option Sign) → signAt (told .signs) place ≡ x → Seen place x l p k → Shows castilian r place shown.Still
+          go none q s = no-sign-there (at-place h none q)
+          go (some g) q s = absurd (omega (arith, s .2))
+
+      pub step-sign : c ≤ longestText → (k ≡ place → ⊥) → Shows castilian r place (shown.Sign l p k)
+      step-sign h e = go (signAt (told .signs) place) refl (told .seen)
+        where
+          go : (x : Option Sign) → signAt (told .signs) place ≡ x → Seen place x l p k → Shows castilian r place (shown.Sign l p k)
+          go none q s = absurd (e s)
+          go (some g) q s =
+              sign-there l p k
+              (subst (λ (n : ℕ). Stepped castilian r place (shows (record { points = points l p; next = n }))) (sym (s .1))
+              (subst (λ (u : Text). Stepped castilian r place (shows (record { points = u; next = place + length (g .taken) }))) (s .0) (at-place h (some g) q)))
+
+  -- a refusal of the row is what `read` and `step` answer
+  pub read-refused : (a : Answer) → RefusesRow castilian r a → (lent new : List ℕ) → new ≡ lent → Read castilian r lent a new
+  read-refused a h lent new same =
+      subst (Read castilian r lent a) (sym same) (refused a (h .0) (h .1) (rules.row-refused (h .0) (h .2)))
+
+  pub step-refused : (a : Answer) → RefusesRow castilian r a → (place : ℕ) → Shows castilian r place (shown.Refused a)
+  step-refused a h place = row-refused a (h .0) (h .1) (stayed (h .0) (h .2))

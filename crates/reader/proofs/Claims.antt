@@ -1,0 +1,227 @@
+-- The claims of specs/Claims.antt. Each goes by cases on the promise; the rules' own demands (crates/rules/proofs/Answers.antt) do the rest, and for the
+-- screen's walk proofs/Visiting.antt. Assumes nothing.
+use mathlib.Core.Path.{_≡_, refl, sym, ap, _∙_, subst}
+use mathlib.Core.List.{List, []}
+use mathlib.Core.Option.{some}
+use Prim.Native.Nat.{ℕ, _+_, _≤_}
+use native.Mathlib.Omega.{arith}
+use lib.ListN.{length, drop, getD}
+use lib.Seq.{getD-append-add, getD-drop}
+use Rattle.rules.specs.Cells.{Text, Row}
+use Rattle.rules.specs.Sorts.{Table}
+use Rattle.rules.specs.Rows.{Reads}
+use Rattle.rules.specs.Refusals.{Refusal, tooLong, atFault, needsRoom, notACell, noText}
+use Rattle.rules.specs.Answers as rules
+use Rattle.rules.specs.Answers.{gives, refuses, ProperRow, ReadsAs, RowRefused, long-row, not-a-cell, no-text, long-text, RowAnswer}
+use Rattle.rules.specs.Screen as screen
+use Rattle.rules.specs.Screen.{StepAnswer, shows, stays, Stepped, stayed}
+use Rattle.rules.specs.Castilian.{castilian}
+use Rattle.rules.proofs.Finite.{nothing}
+use Rattle.rules.proofs.Profile.{Sane}
+use Rattle.rules.proofs.Castilian.{sane}
+use Rattle.rules.proofs.Answers as answers
+use Rattle.rows.specs.Laid.{laid}
+use Rattle.rows.proofs.Laid.{length-laid, front}
+use Rattle.signs.specs.Left.{points}
+use Rattle.reader.specs.declared.Answer.{Answer}
+use Rattle.reader.specs.declared.Answer.the-variants.{Done, TooLong, NotACell, NoText, NeedsRoom}
+use Rattle.reader.specs.declared.Shown.{Shown}
+use Rattle.reader.specs.declared.Shown.the-variants.{Refused}
+use Rattle.reader.specs.Promise.{refusalOf, Read, done, refused, sign-there, no-sign-there, row-refused}
+use Rattle.reader.specs.Claims.{OneOutcome, OneShown, CountIsLength, RestAsItWas, RefusalWritesNothing, ReturnsTheText, NoTextExactly, RefusedAsRead, NeverSix, StillExactly, WalkShowsText}
+use Rattle.reader.proofs.Points.{points-width, points-inj}
+use Rattle.reader.proofs.Visiting.{shows-same, still-exactly-in, walk-shows-text-in}
+
+-- an answer is known by its refusal
+back : Refusal → Answer
+back (tooLong n) = TooLong n
+back (atFault c n) = Done n
+back (needsRoom n) = NeedsRoom n
+back (notACell n) = NotACell n
+back noText = NoText
+
+some-same : {A : Type 0} {x y : A} → some x ≡ some y → x ≡ y
+some-same e = cc
+
+known : (a : Answer) (x : Refusal) → refusalOf a ≡ some x → a ≡ back x
+unfolding back
+known (Done n) x e = nothing e
+known (TooLong n) x e = ap back (some-same e)
+known (NotACell n) x e = ap back (some-same e)
+known NoText x e = ap back (some-same e)
+known (NeedsRoom n) x e = ap back (some-same e)
+
+known-two : (a b : Answer) (x y : Refusal) → refusalOf a ≡ some x → refusalOf b ≡ some y → x ≡ y → a ≡ b
+known-two a b x y p q e = known a x p ∙ ap back e ∙ sym (known b y q)
+
+gives-same : (t u : Text) → gives t ≡ gives u → t ≡ u
+gives-same t u e = cc
+
+refuses-same : (x y : Refusal) → refuses x ≡ refuses y → x ≡ y
+refuses-same x y e = cc
+
+gives-not-refuses : {B : Type 0} {t : Text} {x : Refusal} → gives t ≡ refuses x → B
+gives-not-refuses e = let z : _≡_ {A = ℕ} 0 1 = cc in absurd (omega arith)
+
+done-same : (m n : ℕ) → Done m ≡ Done n → m ≡ n
+done-same m n e = cc
+
+stays-same : (x y : Refusal) → stays x ≡ stays y → x ≡ y
+stays-same x y e = cc
+
+shows-not-stays : {B : Type 0} {x : screen.Shown} {y : Refusal} → shows x ≡ stays y → B
+shows-not-stays e = let z : _≡_ {A = ℕ} 0 1 = cc in absurd (omega arith)
+
+no-points : {B : Type 0} (l p : ℕ) → points l p ≡ [] → B
+no-points l p e = absurd (omega (arith, ap length e, points-width l p .0))
+
+-- behind what was laid all is as it was
+behind : (t lent : List ℕ) (n : ℕ) (new : List ℕ) → n ≡ length t → new ≡ laid t lent → (k : ℕ) → getD new (n + k) 0 ≡ getD lent (n + k) 0
+behind t lent n new e f k = rw (e, f) (getD-append-add t (drop (length t) lent) k 0 ∙ getD-drop (length t) lent k 0)
+
+module _ (tb : Table) where
+  pub refusal-writes-nothing-in : RefusalWritesNothing tb
+  refusal-writes-nothing-in r lent a new (done t g) f = nothing (f .1)
+  refusal-writes-nothing-in r lent a new (refused c x q h) f = refl
+
+  -- an answer that is done: the text that was given
+  abbrev Given : Row → List ℕ → ℕ → List ℕ → Type 0
+  Given r lent n new = (t : Text) × RowAnswer tb r (length lent) (gives t) × (n ≡ length t) × (new ≡ laid t lent)
+
+  given-by : (r : Row) (lent : List ℕ) (a : Answer) (new : List ℕ) → Read tb r lent a new → (n : ℕ) → a ≡ Done n → Given r lent n new
+  given-by r lent a new (done t g) n e = (t, g, sym (done-same (length t) n e), refl)
+  given-by r lent a new (refused c x q h) n e = nothing (sym (ap refusalOf e) ∙ q)
+
+  given-text : (r : Row) (lent : List ℕ) (n : ℕ) (new : List ℕ) → Read tb r lent (Done n) new → Given r lent n new
+  given-text r lent n new h = given-by r lent (Done n) new h n refl
+
+  reads-of : (r : Row) (room : ℕ) (t : Text) → RowAnswer tb r room (gives t) → ReadsAs tb r t × (length t ≤ room)
+  reads-of r room t (rules.read u h l) = (h, l)
+
+  pub count-is-length-in : CountIsLength tb
+  count-is-length-in r lent n new h =
+      let g = given-text r lent n new h in
+      (g .0, reads-of r (length lent) (g .0) (g .1) .0, g .2, front (g .0) lent new n (g .2) (g .3))
+
+  pub rest-as-it-was-in : RestAsItWas tb
+  rest-as-it-was-in r lent n new h =
+      let g = given-text r lent n new h in
+      let t : Text = g .0 in (
+        ap length (g .3) ∙ length-laid t lent (reads-of r (length lent) t (g .1) .1),
+        behind t lent n new (g .2) (g .3),
+      )
+
+  -- a row's refusals are never for want of room
+  not-six : (r : Row) (x : Refusal) (n : ℕ) → RowRefused tb r x → x ≡ needsRoom n → ⊥
+  not-six r x n (long-row l) e = let z : _≡_ {A = ℕ} 0 1 = cc in omega arith
+  not-six r x n (not-a-cell m l k u f) e = let z : _≡_ {A = ℕ} 0 1 = cc in omega arith
+  not-six r x n (no-text p h) e = let z : _≡_ {A = ℕ} 0 1 = cc in omega arith
+  not-six r x n (long-text t p h l) e = let z : _≡_ {A = ℕ} 0 1 = cc in omega arith
+
+  refused-of : (r : Row) (place : ℕ) (x : Refusal) → Stepped tb r place (stays x) → RowRefused tb r x
+  refused-of r place x (stayed y h) = h
+
+  pub never-six-in : NeverSix tb
+  never-six-in r place n (row-refused a x q h) = not-six r x n (refused-of r place x h) (sym (some-same q))
+
+  pub refused-as-read-in : RefusedAsRead tb
+  refused-as-read-in r lent a new (done t g) f other place = nothing (f .1)
+  refused-as-read-in r lent a new (refused c x q h) f other place = row-refused c x q (stayed x (go (refuses x) h refl))
+    where
+      go : (y : rules.Answer) → RowAnswer tb r (length lent) y → y ≡ refuses x → RowRefused tb r x
+      go y (rules.row-refused z k) e = subst (RowRefused tb r) (refuses-same z x e) k
+      go y (rules.text-needs-room t k l) e =
+          absurd (other (length t) (known-two c (NeedsRoom (length t)) x (needsRoom (length t)) q refl (sym (refuses-same (needsRoom (length t)) x e))))
+      go y (rules.read t k l) e = gives-not-refuses e
+
+  module _ (held : Sane tb) where
+    one : (r : Row) (lent : List ℕ) (x y : rules.Answer) → RowAnswer tb r (length lent) x → RowAnswer tb r (length lent) y → x ≡ y
+    one r lent x y = answers.one-row-answer tb held r (length lent) x y
+
+    pub one-outcome-in : OneOutcome tb
+    one-outcome-in r lent a b new old (done t g) (done u h) =
+        let e : t ≡ u = gives-same t u (one r lent (gives t) (gives u) g h) in
+        (ap (λ (x : Text). Done (length x)) e, ap (λ (x : Text). laid x lent) e)
+    one-outcome-in r lent a b new old (done t g) (refused c x q h) = gives-not-refuses (one r lent (gives t) (refuses x) g h)
+    one-outcome-in r lent a b new old (refused c x q h) (done t g) = gives-not-refuses (one r lent (gives t) (refuses x) g h)
+    one-outcome-in r lent a b new old (refused c x q h) (refused d y w k) =
+        (known-two c d x y q w (refuses-same x y (one r lent (refuses x) (refuses y) h k)), refl)
+
+    pub returns-the-text-in : ReturnsTheText tb
+    returns-the-text-in r lent a new (done u g) t h l =
+        let e : u ≡ t = gives-same u t (one r lent (gives u) (gives t) g (rules.read t h l)) in
+        (ap (λ (x : Text). Done (length x)) e, front t lent (laid u lent) (length t) refl (ap (λ (x : Text). laid x lent) e))
+    returns-the-text-in r lent a new (refused c x q k) t h l = gives-not-refuses (one r lent (gives t) (refuses x) (rules.read t h l) k)
+
+    pub no-text-exactly-in : NoTextExactly tb
+    no-text-exactly-in r lent a new p = (there a new p, back-again a new p)
+      where
+        there : (a : Answer) (new : List ℕ) → Read tb r lent a new → a ≡ NoText → ProperRow r × ((t : Text) → Reads tb r t → ⊥)
+        there a new (done t g) e = let z : _≡_ {A = ℕ} 0 1 = cc in absurd (omega arith)
+        there a new (refused c x q h) e =
+            let z : x ≡ noText = some-same (sym q ∙ ap refusalOf e) in
+            answers.no-text-exactly tb held r (length lent) .0 (subst (λ (y : Refusal). RowAnswer tb r (length lent) (refuses y)) z h)
+
+        back-again : (a : Answer) (new : List ℕ) → Read tb r lent a new → ProperRow r × ((t : Text) → Reads tb r t → ⊥) → a ≡ NoText
+        back-again a new (done t g) f = gives-not-refuses (one r lent (gives t) (refuses noText) g (answers.no-text-exactly tb held r (length lent) .1 f))
+        back-again a new (refused c x q h) f =
+            known-two c NoText x noText q refl
+            (refuses-same x noText (one r lent (refuses x) (refuses noText) h (answers.no-text-exactly tb held r (length lent) .1 f)))
+
+    only : (r : Row) (place : ℕ) (a b : StepAnswer) → Stepped tb r place a → Stepped tb r place b → a ≡ b
+    only r place a b = answers.one-step-answer tb held r place a b
+
+    pub one-shown-in : OneShown tb
+    one-shown-in r place s u (sign-there l p k g) (sign-there m q n h) =
+        let e : _≡_ {A = screen.Shown} (record { points = points l p; next = k }) (record { points = points m q; next = n }) =
+        shows-same _ _ (only r place _ _ g h) in
+        let i = points-inj l p m q (ap (λ (x : screen.Shown). x .points) e) in
+        let j : k ≡ n = ap (λ (x : screen.Shown). x .next) e in
+        let a : l ≡ m = i .0 in
+        let b : p ≡ q = i .1 in
+        cc
+    one-shown-in r place s u (sign-there l p k g) (no-sign-there h) =
+        no-points l p (ap (λ (x : screen.Shown). x .points) (shows-same _ _ (only r place _ _ g h)))
+    one-shown-in r place s u (no-sign-there g) (sign-there l p k h) =
+        no-points l p (ap (λ (x : screen.Shown). x .points) (shows-same _ _ (only r place _ _ h g)))
+    one-shown-in r place s u (no-sign-there g) (no-sign-there h) = refl
+    one-shown-in r place s u (sign-there l p k g) (row-refused a x q h) = shows-not-stays (only r place _ _ g h)
+    one-shown-in r place s u (no-sign-there g) (row-refused a x q h) = shows-not-stays (only r place _ _ g h)
+    one-shown-in r place s u (row-refused a x q h) (sign-there l p k g) = shows-not-stays (only r place _ _ g h)
+    one-shown-in r place s u (row-refused a x q h) (no-sign-there g) = shows-not-stays (only r place _ _ g h)
+    one-shown-in r place s u (row-refused a x q g) (row-refused b y w h) =
+        ap Refused (known-two a b x y q w (stays-same x y (only r place (stays x) (stays y) g h)))
+
+-- of the Castilian table
+pub one-outcome : OneOutcome castilian
+one-outcome = one-outcome-in castilian sane
+
+pub one-shown : OneShown castilian
+one-shown = one-shown-in castilian sane
+
+pub count-is-length : CountIsLength castilian
+count-is-length = count-is-length-in castilian
+
+pub rest-as-it-was : RestAsItWas castilian
+rest-as-it-was = rest-as-it-was-in castilian
+
+pub refusal-writes-nothing : RefusalWritesNothing castilian
+refusal-writes-nothing = refusal-writes-nothing-in castilian
+
+pub returns-the-text : ReturnsTheText castilian
+returns-the-text = returns-the-text-in castilian sane
+
+pub no-text-exactly : NoTextExactly castilian
+no-text-exactly = no-text-exactly-in castilian sane
+
+pub refused-as-read : RefusedAsRead castilian
+refused-as-read = refused-as-read-in castilian
+
+pub never-six : NeverSix castilian
+never-six = never-six-in castilian
+
+pub still-exactly : StillExactly castilian
+still-exactly = still-exactly-in castilian sane
+
+pub walk-shows-text : WalkShowsText castilian
+walk-shows-text = walk-shows-text-in castilian sane

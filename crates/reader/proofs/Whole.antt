@@ -1,0 +1,109 @@
+-- A whole row: the signs that the rules' own reader finds from its start are those of the text that has the row (`signs-of-text`), and where it finds
+-- none no text has it. In order: of any table that is sane; a text's length, by its row's; of the Castilian table, where they are `left 0 0`; what a
+-- walk then tells. Assumes nothing.
+use mathlib.Core.Path.{_≡_, refl, sym, ap, _∙_, subst}
+use mathlib.Core.List.{List, [], _∷_}
+use mathlib.Core.Logic.{⊎-elim}
+use mathlib.Core.Option.{Option, none, some}
+use Prim.Native.Nat.{ℕ, _*_, _≤_}
+use native.Mathlib.Omega.{arith}
+use lib.ListN.{length, length-append}
+use Rattle.rules.specs.Cells.{Text, Row}
+use Rattle.rules.specs.Sorts.{Table}
+use Rattle.rules.specs.Signs.{Sign, printOf}
+use Rattle.rules.specs.Pairs.{Opens}
+use Rattle.rules.specs.Rows.{Reads, signsOf}
+use Rattle.rules.specs.Screen.{signAt}
+use Rattle.rules.specs.Demands.{OneOrTwoPoints}
+use Rattle.rules.specs.Castilian.{castilian}
+use Rattle.rules.proofs.Finite.{nothing}
+use Rattle.rules.proofs.States.{Free}
+use Rattle.rules.proofs.Pieces.{Piece}
+use Rattle.rules.proofs.Reader.{walk, all-pieces, reads}
+use Rattle.rules.proofs.Profile.{Sane, shut, print-of, printed, decode, pieces-of, OfText, of-text, reads-right}
+use Rattle.rules.proofs.Signs.{signs-join, cell-for-each-sign}
+use Rattle.rules.proofs.Castilian.{sane}
+use Rattle.pairs.proofs.Pairing.{none-open}
+use Rattle.signs.specs.Left.{signsBy, left}
+use Rattle.reader.specs.Passes.{Seen, Finds, finds-text, finds-none}
+use Rattle.reader.specs.declared.Walked.{Walked}
+use Rattle.reader.specs.declared.Walked.the-variants.{Text as TextOf, Nowhere}
+
+module _ (tb : Table) (held : Sane tb) (r : Row) where
+  abbrev pub piecesIn : Option (List Piece)
+  piecesIn = walk (all-pieces tb) Free shut 0 r
+
+  pub signs-of-text : (t : Text) → Reads tb r t → signsBy piecesIn ≡ some (signsOf tb t)
+  signs-of-text t e =
+      let h : OfText tb held r t = of-text tb held r t e in
+      ap signsBy
+      (ap (walk (all-pieces tb) Free shut 0) (sym (h .row))
+      ∙ reads (all-pieces tb) (held .apart) (held .begin) Free shut (pieces-of tb held t) (h .runs) (h .inside))
+      ∙ ap some (sym (h .signs))
+
+  pub text-of-signs : (ss : List Sign) → signsBy piecesIn ≡ some ss → Reads tb r (printOf ss) × (signsOf tb (printOf ss) ≡ ss)
+  unfolding decode
+  text-of-signs ss e = go piecesIn refl
+    where
+      go : (x : Option (List Piece)) → piecesIn ≡ x → Reads tb r (printOf ss) × (signsOf tb (printOf ss) ≡ ss)
+      go none q = nothing (sym (ap signsBy q) ∙ e)
+      go (some ps) q =
+          let t : Text = print-of (held .shares) ps in
+          let h : Reads tb r t = reads-right tb held r t (ap (printed (held .shares)) q) in
+          let z : some (signsOf tb t) ≡ some ss = sym (signs-of-text t h) ∙ e in
+          let s : signsOf tb t ≡ ss = cc in
+          let p : printOf ss ≡ t = ap printOf (sym s) ∙ signs-join tb held t r h .0 in
+          (subst (Reads tb r) (sym p) h, ap (signsOf tb) p ∙ s)
+
+  pub no-text-of-none : signsBy piecesIn ≡ none → (t : Text) → Reads tb r t → ⊥
+  no-text-of-none e t h = nothing (sym e ∙ signs-of-text t h)
+
+-- one or two code points a sign, and a cell or more
+two-each : (ss : List Sign) → OneOrTwoPoints ss → length (printOf ss) ≤ 2 * length ss
+two-each [] h = omega arith
+two-each (s ∷ ss) h =
+    let l : length (s .shown) ≤ 2 = ⊎-elim (λ e. omega (arith, e)) (λ e. omega (arith, e)) (h .0) in
+    omega (arith, length-append (s .shown) (printOf ss), two-each ss (h .1))
+
+pub two-points-each : (tb : Table) → Sane tb → (t : Text) (r : Row) → Reads tb r t → length t ≤ 2 * length r
+two-points-each tb held t r e =
+    let j = signs-join tb held t r e in
+    omega (arith, ap length (j .0), two-each (signsOf tb t) (j .2), cell-for-each-sign tb held t r e)
+
+-- of the Castilian table
+module _ (r : Row) where
+  left-is : left 0 0 r ≡ signsBy (walk (all-pieces castilian) Free shut 0 r)
+  left-is = ap (λ (o : Opens). signsBy (walk (all-pieces castilian) Free o 0 r)) (sym none-open)
+
+  pub left-text : (ss : List Sign) → left 0 0 r ≡ some ss → Reads castilian r (printOf ss) × (signsOf castilian (printOf ss) ≡ ss)
+  left-text ss e = text-of-signs castilian sane r ss (sym left-is ∙ e)
+
+  pub left-none : left 0 0 r ≡ none → (t : Text) → Reads castilian r t → ⊥
+  left-none e = no-text-of-none castilian sane r (sym left-is ∙ e)
+
+-- WHAT A WALK TELLS: that there is no text; or the signs, their count, and what is seen
+pub told-nowhere : (place : ℕ) (x : Option (List Sign)) (w : Walked) → Finds place x w → w ≡ Nowhere → x ≡ none
+told-nowhere place x w (finds-text ss l p k h) e = let z : _≡_ {A = ℕ} 0 1 = cc in absurd (omega arith)
+told-nowhere place x w finds-none e = refl
+
+pub record Told (place : ℕ) (x : Option (List Sign)) (c l p k : ℕ) : Type 0 where
+  pub signs : List Sign
+  pub are : x ≡ some signs
+  pub count : c ≡ length (printOf signs)
+  pub seen : Seen place (signAt signs place) l p k
+
+pub told-text : (place : ℕ) (x : Option (List Sign)) (w : Walked) (c l p k : ℕ) → Finds place x w → w ≡ TextOf c l p k → Told place x c l p k
+told-text place x w c l p k (finds-text ss l' p' k' h) e =
+    let a : length (printOf ss) ≡ c = cc in
+    let b : l' ≡ l = cc in
+    let d : p' ≡ p = cc in
+    let f : k' ≡ k = cc in
+    record {
+      signs = ss;
+      are = refl;
+      count = sym a;
+      seen =
+          subst (λ (i : ℕ). Seen place (signAt ss place) i p k) b
+          (subst (λ (i : ℕ). Seen place (signAt ss place) l' i k) d (subst (λ (i : ℕ). Seen place (signAt ss place) l' p' i) f h));
+    }
+told-text place x w c l p k finds-none e = let z : _≡_ {A = ℕ} 0 1 = cc in absurd (omega arith)
