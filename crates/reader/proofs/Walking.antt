@@ -21,7 +21,8 @@ use Rattle.rules.proofs.Machine.{at-rest}
 use Rattle.pairs.specs.Opened.{openStates}
 use Rattle.rows.specs.Laid.{laid}
 use Rattle.signs.specs.Modes.{modeOf, modeCount}
-use Rattle.signs.specs.Left.{left, addSign, points}
+use Rattle.signs.specs.Left.{left, addSign}
+use Rattle.signs.specs.Print.{points}
 use Rattle.signs.proofs.Turning.{Turn, end-left}
 use Rattle.reader.specs.Passes.{Seen, Finds, finds-text, finds-none}
 use Rattle.reader.specs.declared.Walked.{Walked}

@@ -14,7 +14,7 @@ use Rattle.rules.specs.Refusals.{Refusal}
 use Rattle.rules.specs.Answers.{RowRefused}
 use Rattle.rules.specs.Screen.{signAt}
 use Rattle.rows.specs.Laid.{laid}
-use Rattle.signs.specs.Left.{points}
+use Rattle.signs.specs.Print.{points}
 use Rattle.reader.specs.Promise.{refusalOf}
 use Rattle.reader.specs.declared.Answer.{Answer}
 use Rattle.reader.specs.declared.Walked.{Walked}

@@ -12,7 +12,8 @@ ghost use Rattle.rules.specs.Castilian.{castilian};
 ghost use Rattle.rules.specs.Rows.{Reads};
 ghost use Rattle.rules.specs.Refusals.{longestRow, reported};
 ghost use Rattle.rows.specs.Laid.{laid};
-ghost use Rattle.signs.specs.Left.{left, points};
+ghost use Rattle.signs.specs.Left.{left};
+ghost use Rattle.signs.specs.Print.{points};
 ghost use Rattle.reader.specs.Promise.{Read, Shows};
 ghost use Rattle.reader.specs.Passes.{FirstHigh, RefusesRow, Finds, Room, heldAfter};
 

@@ -31,7 +31,8 @@ use Rattle.signs.specs.Acts as act
 use Rattle.signs.specs.Fields.{deedOf, classIn, pointIn, thenIn, usualIn, noCell, cellFrom, cellOf}
 use Rattle.signs.specs.Words.{wordOf}
 use Rattle.signs.specs.Readings.{Reading, one, onceList, askList, readingOf, byWord, askedBy, capitalBy, prefixBy, longerBy, stepOf, stepAt}
-use Rattle.signs.specs.Left.{left, signsBy, addSign, points}
+use Rattle.signs.specs.Left.{left, signsBy, addSign}
+use Rattle.signs.specs.Print.{points}
 use Rattle.signs.specs.declared.Step.{Step}
 use Rattle.signs.specs.declared.Step.the-variants as variant
 use Rattle.signs.proofs.Sight.{Agree}

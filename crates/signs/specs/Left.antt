@@ -1,12 +1,10 @@
 -- The signs that are left of a row, from a mode and the open pairs, as the rules' own reader finds them (crates/rules/proofs/Reader.antt, `walk`). Inner
 -- promises only: what is promised to a caller is said with `Reads` and `signsOf` alone. Assumes nothing.
-use mathlib.Core.Bool.{cond}
-use mathlib.Core.List.{List, [], _∷_, map}
+use mathlib.Core.List.{List, _∷_, map}
 use mathlib.Core.Option.{Option, none, some}
 use Prim.Native.Nat.{ℕ}
-use lib.Dec.{eqb}
 use Rattle.rules.specs.Castilian.{castilian}
-use Rattle.rules.specs.Cells.{Text, Row}
+use Rattle.rules.specs.Cells.{Row}
 use Rattle.rules.specs.Signs.{Sign}
 use Rattle.rules.proofs.Pieces.{Piece, sign-of}
 use Rattle.rules.proofs.Reader.{walk, all-pieces}
@@ -24,7 +22,3 @@ left m o r = signsBy (walk (all-pieces castilian) (modeOf m) (opensOf o) 0 r)
 abbrev pub addSign : Sign → Option (List Sign) → Option (List Sign)
 addSign s none = none
 addSign s (some ss) = some (s ∷ ss)
-
--- the print of a sign: one code point, or two where `lead` is one that has no cell
-abbrev pub points : ℕ → ℕ → Text
-points lead point = cond (eqb lead 0) (point ∷ []) (lead ∷ point ∷ [])

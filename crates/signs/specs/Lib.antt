@@ -5,3 +5,4 @@ pub mod Fields
 pub mod Words
 pub mod Readings
 pub mod Left
+pub mod Print

@@ -10,7 +10,8 @@ use native.Mathlib.Omega.{arith}
 use borrow.Author.Needs.{needs}
 use lib.ListN.{length, drop}
 use Rattle.rules.specs.Signs.{Sign}
-use Rattle.signs.specs.Left.{left, points}
+use Rattle.signs.specs.Left.{left}
+use Rattle.signs.specs.Print.{points}
 use Rattle.signs.proofs.Turning.{Turn, turn-of, none-left}
 use Rattle.reader.proofs.Lending.{Lent, lent-start, lent-length, lent-end, lent-none}
 use Rattle.reader.proofs.Walking.{Mid, mid-start, mid-few, mid-on, mid-none, mid-end, end-text, end-owing, end-open, turn-room, turn-put, turn-count}
