@@ -1,5 +1,5 @@
 // The boundary: what C and Rust link (include/omdurgash.h). Numbers and slices only; each function is thin over a proved one.
-use reader::NO_POINT;
+use signs::NO_POINT;
 use transcriber::Answer;
 ghost use mathlib.Core.Path.{_≡_};
 ghost use Rattle.rules.specs.Castilian.{castilian};
@@ -166,10 +166,13 @@ fn sign_numbers(shown: reader::Shown, place: usize) -> Sign
 {
     match shown {
         reader::Shown::Sign { lead, point, next } => shown_sign(lead, point, next),
-        reader::Shown::Still => no_sign(Shown {
-            number: DONE,
-            second: 0,
-        }, place),
+        reader::Shown::Still => no_sign(
+            Shown {
+                number: DONE,
+                second: 0,
+            },
+            place,
+        ),
         reader::Shown::Refused(answer) => no_sign(read_numbers(answer), place),
     }
 }
