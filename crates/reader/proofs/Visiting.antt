@@ -50,7 +50,7 @@ coded-pieces : (ss : List Piece) → Coded (map sign-of ss)
 coded-pieces [] = tt
 coded-pieces (s ∷ ss) = (coded-piece s, coded-pieces ss)
 
-coded-at : (ss : List Sign) → Coded ss → (n : ℕ) (s : Sign) → signAt ss n ≡ some s → CodedSign s
+pub coded-at : (ss : List Sign) → Coded ss → (n : ℕ) (s : Sign) → signAt ss n ≡ some s → CodedSign s
 unfolding signAt
 coded-at [] h n s e = nothing e
 coded-at (u ∷ ss) h n s e = go (eqb n 0) (leb (length (u .taken)) n) (coded-at ss (h .1) (n - length (u .taken)) s) e
@@ -64,7 +64,7 @@ coded-at (u ∷ ss) h n s e = go (eqb n 0) (leb (length (u .taken)) n) (coded-at
     go false false ih e = nothing e
 
 module _ (tb : Table) (held : Sane tb) where
-  coded-text : (t : Text) (r : Row) → Reads tb r t → Coded (signsOf tb t)
+  pub coded-text : (t : Text) (r : Row) → Reads tb r t → Coded (signsOf tb t)
   coded-text t r e =
       let h : OfText tb held r t = of-text tb held r t e in
       subst Coded (sym (h .signs)) (coded-pieces (pieces-of tb held t))
