@@ -325,12 +325,10 @@ fn mark(kind: usize, next: usize, opened: usize) -> Step
     requires { ⌜ (kind < kinds) × (opened < openStates) ⌝ }
     ensures { λ r. ⌜ r ≡ markStep next opened kind ⌝ }
 {
-    let point = if pairs::is_open(opened, kind) {
-        closer_of(kind)
-    } else {
-        opener_of(kind)
-    };
-    sign(point, next, FREE, pairs::turned(opened, kind))
+    if pairs::is_open(opened, kind) {
+        return sign(closer_of(kind), next, FREE, pairs::turned(opened, kind));
+    }
+    sign(opener_of(kind), next, FREE, pairs::turned(opened, kind))
 }
 
 // Is the cell that of a digit?

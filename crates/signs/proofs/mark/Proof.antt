@@ -1,9 +1,9 @@
 -- `mark`: the closer where the kind is open, and otherwise the opener. Assumes nothing.
 use mathlib.Core.Path.{_≡_, sym, ap, _∙_}
-use mathlib.Core.Logic.{⊎-elim}
 use Prim.Native.Nat.{ℕ}
-use Rattle.signs.specs.Readings.{noPoint}
+use Rattle.pairs.specs.Opened.{turnedBy}
 use Rattle.signs.specs.Modes.{free}
+use Rattle.signs.specs.Readings.{noPoint}
 use Rattle.signs.specs.declared.Step.the-variants as variant
 use Rattle.signs.proofs.Cases.{closes-it, opens-it}
 use borrow.Author.Needs.{needs}
@@ -23,9 +23,6 @@ is-open-requires c κs = search needs
 closer-of-requires : tie.Need-closer-of-requires
 closer-of-requires c κs = search needs
 
-opener-of-requires : tie.Need-opener-of-requires
-opener-of-requires c κs = search needs
-
 turned-requires : tie.Need-turned-requires
 turned-requires c κs = search needs
 
@@ -34,14 +31,34 @@ sign-requires c κs = search needs
 
 returns : tie.Need-returns
 returns c =
-    let k = c .before .before in
-    let o = k .before in
+    let t = c .before in
+    let k = t .before in
+    let o = k .before .before in
     let s = o .before in
     c .sign .ensures
-    ∙ ap (λ (u : ℕ). variant.Sign noPoint (k .if1 .point) (s .args .next) free u) (c .before .turned .ensures)
-    ∙ ⊎-elim
-    (λ w. closes-it (s .args .next) (s .args .opened) (s .args .kind) (k .if1 .point) (sym (o .is-open .ensures) ∙ w .0 .taken) (w .2 ∙ w .1 .ensures) _)
-    (λ w. opens-it (s .args .next) (s .args .opened) (s .args .kind) (k .if1 .point) (sym (o .is-open .ensures) ∙ w .0 .left) (w .2 ∙ w .1 .ensures) _) (k .if1 .came)
+    ∙ ap (λ (u : ℕ). variant.Sign noPoint (k .closer-of .result) (s .args .next) free u) (t .turned .ensures)
+    ∙ closes-it (s .args .next) (s .args .opened) (s .args .kind) (k .closer-of .result) (sym (o .is-open .ensures) ∙ k .before .if1 .taken) (k .closer-of .ensures)
+    (turnedBy (s .args .opened) (s .args .kind))
+
+opener-of-requires : tie.Need-opener-of-requires
+opener-of-requires c κs = search needs
+
+turned-requires-2 : tie.Need-turned-requires-2
+turned-requires-2 c κs = search needs
+
+sign-requires-2 : tie.Need-sign-requires-2
+sign-requires-2 c κs = search needs
+
+returns-2 : tie.Need-returns-2
+returns-2 c =
+    let t = c .before in
+    let k = t .before in
+    let o = k .before .before in
+    let s = o .before in
+    c .sign2 .ensures
+    ∙ ap (λ (u : ℕ). variant.Sign noPoint (k .opener-of .result) (s .args .next) free u) (t .turned2 .ensures)
+    ∙ opens-it (s .args .next) (s .args .opened) (s .args .kind) (k .opener-of .result) (sym (o .is-open .ensures) ∙ k .before .if1 .left) (k .opener-of .ensures)
+    (turnedBy (s .args .opened) (s .args .kind))
 
 pub mark-spec : {M : Type 1} → statement M
 mark-spec =
@@ -49,7 +66,10 @@ mark-spec =
     (tie.spec
     is-open-requires
     closer-of-requires
-    opener-of-requires
     turned-requires
     sign-requires
-    returns)
+    returns
+    opener-of-requires
+    turned-requires-2
+    sign-requires-2
+    returns-2)
