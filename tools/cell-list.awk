@@ -4,7 +4,8 @@
 #     3 12 B_TO_J 0x62 0x42 0x32 none none b B 2
 #     38 236 MARK_OR_LOW none none none 0x38 2 « » 8
 #
-# and behind them, after `two`, each sign of two cells whose first is none of a sign by itself, by its code point:
+# and behind them, after `two`, each sign of two cells whose first is none by itself, by its code point (but for 46: what
+# follows it is code's to decide):
 #
 #     two FIRST SECOND POINT COMMENT
 #     two 5 123 0x7b {
@@ -44,7 +45,7 @@ $5 == "none" { next }
 $5 ~ /-/ {
     cells = split($5, cell, "-")
     begins[cell[1]] = 1
-    if (cells == 2 && $4 == "OTHER_SIGN" && $7 == "none") two[++twos] = "two\t" cell[1] "\t" cell[2] "\t" $2 "\t" $9
+    if (cells == 2 && $4 == "OTHER_SIGN" && $7 == "none" && cell[1] != "46") two[++twos] = "two\t" cell[1] "\t" cell[2] "\t" $2 "\t" $9
     next
 }
 

@@ -197,7 +197,6 @@ twoCells =
     ∷ (paired (dots 6) (dots 12346), 0x26)
     ∷ (paired (dots 6) (dots 2), 0x2f)
     ∷ (paired (dots 5) (dots 13), 0x3c)
-    ∷ (paired (dots 46) (dots 2), 0x3e)
     ∷ (paired (dots 5) (dots 3), 0x5c)
     ∷ (paired (dots 5) (dots 123), 0x7b)
     ∷ (paired (dots 456) (dots 2), 0x7d)

@@ -591,8 +591,6 @@ const D6_2: usize = D6 as usize * CELL_PLACES + D2 as usize;
 
 const D5_13: usize = D5 as usize * CELL_PLACES + D13 as usize;
 
-const D46_2: usize = D46 as usize * CELL_PLACES + D2 as usize;
-
 const D5_3: usize = D5 as usize * CELL_PLACES + D3 as usize;
 
 const D5_123: usize = D5 as usize * CELL_PLACES + D123 as usize;
@@ -620,7 +618,6 @@ pub fn two_cells(first: u8, second: u8) -> u32
         D6_12346 => 0x26, // &
         D6_2 => 0x2f, // /
         D5_13 => 0x3c, // <
-        D46_2 => 0x3e, // >
         D5_3 => 0x5c, // \
         D5_123 => 0x7b, // {
         D456_2 => 0x7d, // }

@@ -1,7 +1,7 @@
 // The inner step of reading: the sign that starts at a place of a row, from the mode and the open pairs that the signs before it leave. Most cells are read
 // as usual, as their small letter or their sign; where the mode asks for another reading, the table says which (tools/readings.txt).
 // A new sign is a line of crates/rules/specs/Castilian.antt, printed again; a new mode, deed or class is added in tools/readings.txt, and as a constant here
-// and in specs/.
+// and in specs/; a new pair kind is also an arm of `opener_of` and of `closer_of`.
 use cells::D2;
 use cells::D6;
 use cells::D36;
@@ -176,6 +176,9 @@ const USUAL_AT: u64 = 281474976710656;
 
 const MODE_PLACES: usize = 16;
 
+// How many classes a row of the table has room for.
+const TABLE_ROW: usize = 16;
+
 // No code point; no cell: past the row's end, or where the byte is none.
 pub const NO_POINT: u32 = 0;
 
@@ -183,7 +186,7 @@ const NO_CELL: u8 = 64;
 
 const LAST_CELL: u8 = 63;
 
-// The code points that stand in no cell's word.
+// The code points that a deed gives by itself.
 const FULL_STOP: u32 = 0x2e; // .
 
 const THE_ONE: u32 = 0x31; // 1
@@ -266,7 +269,7 @@ fn is_usual(word: u64, mode: usize) -> bool
 fn deed_of(mode: usize, class: usize) -> usize
     ensures { λ r. ⌜ r ≡ deedOf mode class ⌝ }
 {
-    table::deed_at(mode % MODE_PLACES * MODE_PLACES + class % MODE_PLACES)
+    table::deed_at(mode % MODE_PLACES * TABLE_ROW + class % TABLE_ROW)
 }
 
 // The cell at a place, and NO_CELL past the row's end or where the byte is no cell: no caller tests the length.
@@ -282,7 +285,7 @@ fn cell_at(row: &[u8], place: usize) -> u8
     NO_CELL
 }
 
-// The opener and the closer of a kind.
+// The opener and the closer of a kind; the kinds have the numbers of the rules (crates/rules/specs/Pairs.antt).
 fn opener_of(kind: usize) -> u32
     ensures { λ r. ⌜ r ≡ openerOf kind ⌝ }
 {
@@ -290,7 +293,7 @@ fn opener_of(kind: usize) -> u32
         0 => 0xbf, // ¿
         1 => 0xa1, // ¡
         2 => 0xab, // «
-        3 => 0x2018, // ‘
+        INNER_QUOTES => 0x2018, // ‘
         _ => 0xe000, // emphasis opens
     }
 }
@@ -302,12 +305,12 @@ fn closer_of(kind: usize) -> u32
         0 => 0x3f, // ?
         1 => 0x21, // !
         2 => 0xbb, // »
-        3 => 0x2019, // ’
+        INNER_QUOTES => 0x2019, // ’
         _ => 0xe001, // emphasis closes
     }
 }
 
-// A sign of one code point that turns no pair.
+// A sign of one code point.
 fn sign(point: u32, next: usize, mode: usize, opened: usize) -> Step
     ensures { λ r. ⌜ r ≡ Step.Sign noPoint point next mode opened ⌝ }
 {

@@ -22,7 +22,7 @@ add-match c = search needs
 abbrev sign : ℕ → ℕ
 sign n = choose twoCells n 0
 
-other : tie.Need-returns-15
+other : tie.Need-returns-14
 unfolding twoCells dots
 other c = sym (chosen-rest twoCells (paired (c .before .args .first) (c .before .args .second)) 0 (c .match .rest))
 
@@ -44,5 +44,4 @@ two-cells-spec =
     (λ c. sym (ap sign (c .match .keys11)))
     (λ c. sym (ap sign (c .match .keys12)))
     (λ c. sym (ap sign (c .match .keys13)))
-    (λ c. sym (ap sign (c .match .keys14)))
     other)
