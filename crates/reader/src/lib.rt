@@ -12,7 +12,7 @@ ghost use Rattle.rules.specs.Castilian.{castilian};
 ghost use Rattle.rules.specs.Rows.{Reads};
 ghost use Rattle.rules.specs.Refusals.{longestRow, reported};
 ghost use Rattle.rows.specs.Laid.{laid};
-ghost use Rattle.signs.specs.Left.{left};
+ghost use Rattle.signs.specs.Left.{signsIn};
 ghost use Rattle.signs.specs.Print.{points};
 ghost use Rattle.reader.specs.Promise.{Read, Shows};
 ghost use Rattle.reader.specs.Passes.{FirstHigh, RefusesRow, Finds, Room, heldAfter};
@@ -91,8 +91,8 @@ fn put_sign(text: &mut [u32], lead: u32, point: u32) -> usize
 
 // "each step gives the print of the next sign and the place after it." What is lent has no element at all, and nothing is written; or it has room for the whole text.
 fn walk(row: &[u8], place: usize, text: &mut [u32]) -> Walked
-    requires { ⌜ (length (now row) ≤ longestRow) × Room (left 0 0 (now row)) (length (now text)) ⌝ }
-    ensures { λ r. ⌜ Finds place (left 0 0 (now (row .entry))) r × (now (text .exit) ≡ heldAfter (left 0 0 (now (row .entry))) (now (text .entry))) ⌝ }
+    requires { ⌜ (length (now row) ≤ longestRow) × Room (signsIn (now row)) (length (now text)) ⌝ }
+    ensures { λ r. ⌜ Finds place (signsIn (now (row .entry))) r × (now (text .exit) ≡ heldAfter (signsIn (now (row .entry))) (now (text .entry))) ⌝ }
 {
     let mut mode: usize = FREE;
     let mut opened: usize = 0;

@@ -9,7 +9,7 @@ use Rattle.rules.specs.Signs.{Sign}
 use Rattle.rules.proofs.Pieces.{Piece, sign-of}
 use Rattle.rules.proofs.Reader.{walk, all-pieces}
 use Rattle.pairs.specs.Opened.{opensOf}
-use Rattle.signs.specs.Modes.{modeOf}
+use Rattle.signs.specs.Modes.{modeOf, free}
 
 abbrev pub signsBy : Option (List Piece) → Option (List Sign)
 signsBy none = none
@@ -17,6 +17,10 @@ signsBy (some ss) = some (map sign-of ss)
 
 abbrev pub left : ℕ → ℕ → Row → Option (List Sign)
 left m o r = signsBy (walk (all-pieces castilian) (modeOf m) (opensOf o) 0 r)
+
+-- those of a whole row: nothing is begun, and no pair is open
+abbrev pub signsIn : Row → Option (List Sign)
+signsIn r = left free 0 r
 
 -- one sign more in front
 abbrev pub addSign : Sign → Option (List Sign) → Option (List Sign)
