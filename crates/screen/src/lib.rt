@@ -62,7 +62,7 @@ pub fn first(row: &[u8]) -> Shown
 }
 
 // The step at a place, by a reader that was moved there.
-pub fn after(row: &[u8], place: usize) -> Shown
+pub fn shown_at(row: &[u8], place: usize) -> Shown
     ensures { λ r. ⌜ Shows castilian (now (row .entry)) place r ⌝ }
 {
     next(moved(new(row), place))
