@@ -1,0 +1,63 @@
+-- `run_rows::dots::tell_line` is safe and ends. The count is tested before the part of the row is lent, which then has as many cells.
+-- Assumes nothing.
+use native.Mathlib.Omega.{arith}
+use lib.ListN.{length-take}
+use Rattle.run_rows.proofs.dots.tell_line.Statement.{statement}
+use Rattle.run_rows.proofs.dots.tell_line.Tie as tie
+
+sub-line : tie.Need-sub-line
+sub-line c = omega arith
+
+part-line-start : tie.Need-part-line-start
+part-line-start c = omega arith
+
+part-line-end : tie.Need-part-line-end
+part-line-end c = omega arith
+
+slice-aggregate-put-cells : tie.Need-slice-aggregate-put-cells
+slice-aggregate-put-cells c = omega arith
+
+put-cells-requires : tie.Need-put-cells-requires
+put-cells-requires c κs = tt
+
+too-long-requires : tie.Need-too-long-requires
+too-long-requires c κs = tt
+
+returns : tie.Need-returns
+returns c = tt
+
+array-share-prefix-row : tie.Need-array-share-prefix-row
+array-share-prefix-row c = omega arith
+
+slice-aggregate-answer-to : tie.Need-slice-aggregate-answer-to
+slice-aggregate-answer-to c = simp length-take (omega arith)
+
+answer-to-requires : tie.Need-answer-to-requires
+answer-to-requires c κs = tt
+
+name-requires : tie.Need-name-requires
+name-requires c κs = tt
+
+answer-requires : tie.Need-answer-requires
+answer-requires c κs = tt
+
+returns-2 : tie.Need-returns-2
+returns-2 c = tt
+
+pub tell-line-spec : {M : Type 1} → statement M
+tell-line-spec =
+    tie.close
+    (tie.spec
+    sub-line
+    part-line-start
+    part-line-end
+    slice-aggregate-put-cells
+    put-cells-requires
+    too-long-requires
+    returns
+    array-share-prefix-row
+    slice-aggregate-answer-to
+    answer-to-requires
+    name-requires
+    answer-requires
+    returns-2)

@@ -1,0 +1,56 @@
+-- `run_rows::trial::begins_with` is safe and ends. The invariant: the place is within the row. The measure is what is left of it. Assumes
+-- nothing.
+use native.Mathlib.Omega.{arith}
+use Prim.Native.Nat.{_-_, _≤_}
+use lib.ListN.{length}
+use Rattle.run_rows.proofs.trial.begins_with.Statement.{statement}
+use Rattle.run_rows.proofs.trial.begins_with.Tie as tie
+
+abbrev Inv-loop : tie.InvT-loop
+Inv-loop longer row i₀ i = i ≤ length row
+
+abbrev μ-loop : tie.MeasureT-loop
+μ-loop longer row i₀ i = length row - i
+
+loop-holds : tie.Need-loop-holds Inv-loop μ-loop
+loop-holds c = omega arith
+
+returns : tie.Need-returns Inv-loop μ-loop
+returns c = tt
+
+shared-slice-read-if2 : tie.Need-shared-slice-read-if2 Inv-loop μ-loop
+shared-slice-read-if2 c = omega arith
+
+shared-slice-read-if2-2 : tie.Need-shared-slice-read-if2-2 Inv-loop μ-loop
+shared-slice-read-if2-2 c = omega arith
+
+returns-2 : tie.Need-returns-2 Inv-loop μ-loop
+returns-2 c = tt
+
+add-i : tie.Need-add-i Inv-loop μ-loop
+add-i c = omega arith
+
+loop-less : tie.Need-loop-less Inv-loop μ-loop
+loop-less c = omega arith
+
+loop-again : tie.Need-loop-again Inv-loop μ-loop
+loop-again c = omega arith
+
+returns-3 : tie.Need-returns-3 Inv-loop μ-loop
+returns-3 c = tt
+
+pub begins-with-spec : {M : Type 1} → statement M
+begins-with-spec =
+    tie.close
+    (tie.spec
+    Inv-loop
+    μ-loop
+    loop-holds
+    returns
+    shared-slice-read-if2
+    shared-slice-read-if2-2
+    returns-2
+    add-i
+    loop-less
+    loop-again
+    returns-3)

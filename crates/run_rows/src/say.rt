@@ -1,0 +1,78 @@
+// What is written to standard output.
+use libc::STDOUT_FILENO;
+
+// So many cells of a row are shown.
+const CELLS_SHOWN: usize = 8;
+
+fn text(bytes: &[u8]) {
+    io::write_all(STDOUT_FILENO, bytes);
+}
+
+// A number, with a blank before it.
+fn number(n: usize) {
+    text(b" ");
+    io::print_decimal(STDOUT_FILENO, n as u64);
+}
+
+fn cell(byte: u8) {
+    number(byte as usize);
+}
+
+// `NAME: N`
+pub fn count(of: &[u8], n: usize) {
+    text(of);
+    text(b":");
+    number(n);
+    text(b"\n");
+}
+
+// The first cells of a row, as bytes.
+fn first_cells(row: &[u8]) {
+    let mut i = 0;
+    while i < row.len() {
+        if CELLS_SHOWN <= i {
+            return;
+        }
+        cell(row[i]);
+        i += 1;
+    }
+}
+
+// The name of a row: what is given; `cells 5: 64 1 1 1 1`, its length and its first cells; or `room 3`, for "abc".
+pub fn name(given: &[u8]) {
+    text(given);
+}
+
+pub fn cells(row: &[u8]) {
+    text(b"cells");
+    number(row.len());
+    text(b":");
+    first_cells(row);
+}
+
+pub fn room(n: usize) {
+    text(b"room");
+    number(n);
+}
+
+// ` -> 8 0`, behind a name
+pub fn answer(first: usize, second: usize) {
+    text(b" ->");
+    number(first);
+    number(second);
+    text(b"\n");
+}
+
+// `DISAGREES: WHAT, cells 2: 40 1`
+pub fn disagrees(what: &[u8], row: &[u8]) {
+    text(b"DISAGREES: ");
+    text(what);
+    text(b", ");
+    cells(row);
+    text(b"\n");
+}
+
+// Standard input, or a line of it, does not fit.
+pub fn too_long() {
+    text(b"DISAGREES: standard input is too long\n");
+}
