@@ -26,7 +26,8 @@ const WRITTEN: u8 = 1;
 
 // ---- the code points
 
-// Has a code point a sign? (º, ª and U+2044 have one, and are refused alone for another reason.)
+// Has a code point a sign, or does it become one that has? (º, ª and U+2044 have one, and are refused alone for another reason; U+2026 and the quotes that
+// normalising replaces become some that have.)
 fn has_sign(point: u32) -> bool {
     let text = [point; 1];
     let mut row = [0u8; SMALL_ROOM];

@@ -129,7 +129,7 @@ fn lost() -> Walk {
 // What a step at a place makes of a walk. A sign is to be shown where the walk is, and at no other place.
 fn stepped(row: &[u8], text: &[u32], place: usize, walk: Walk) -> Walk {
     let is_due = place == walk.due && place < row.len();
-    let shown = reader::step(row, place);
+    let shown = screen::shown_at(row, place);
     match shown {
         Shown::Sign { lead, point, next } => {
             if !is_due || next <= place {
@@ -171,7 +171,7 @@ fn is_walked(row: &[u8], text: &[u32]) -> bool {
 
 // Is a step at a place refused so? (Number 0: is it not refused?)
 fn is_refused_at(row: &[u8], place: usize, number: usize, second: usize) -> bool {
-    let shown = reader::step(row, place);
+    let shown = screen::shown_at(row, place);
     let Shown::Refused(answer) = shown else {
         return number == DONE;
     };

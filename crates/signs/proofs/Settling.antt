@@ -1,6 +1,6 @@
--- What is read from the mode and three cells is what the rules' reader finds. In order: the pieces that a mode takes (`cands`), and the first of them that
--- fits; that only those that begin with the cell at hand count; what settles it (`settle`); the test at every mode and cell, and what it means (`found`).
--- No clause names a sign. Assumes nothing.
+-- Which piece the rules' reader finds at a place of a row, from a mode and the first cells. In order: the pieces that a mode takes (`cands`), and the first of them
+-- that fits; that only those that begin with the cell at hand count (`bucket-picks`); what settles it (`settle`), and what that means (`settled`). No clause names a
+-- sign. Assumes nothing.
 use mathlib.Core.Path.{_≡_, refl, sym, _∙_, ap, subst}
 use mathlib.Core.Bool.{Bool, true, false, _&&_, _||_, not, cond}
 use mathlib.Core.List.{List, [], _∷_}

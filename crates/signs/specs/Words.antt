@@ -1,6 +1,6 @@
 -- Printed by tools/print-cell-list.sh from crates/rules/specs/Castilian.antt and tools/readings.txt: change those, and print it again.
 -- The word of each cell by its fields, and the signs of two cells whose first is none by itself. That they are what the rules say is shown by computed tests
--- (proofs/Settling.antt). Assumes nothing.
+-- (proofs/Tested.antt). Assumes nothing.
 use Prim.Native.Nat.{ℕ, _+_, _*_, _^_}
 use mathlib.Core.List.{List, [], _∷_}
 use lib.ListN.{getD}

@@ -1,5 +1,5 @@
 //! Times the exported library on one core, the best of several repetitions: transcribing, in nanoseconds for each code point of print; reading, in
-//! nanoseconds for each cell, beside the plain reader; and steps.
+//! nanoseconds for each cell, beside the plain readers; and steps.
 //!
 //! Every answer that is timed is also asserted, and what is written is compared with what is due.
 mod prose;

@@ -1,4 +1,5 @@
-//! Reading: nanoseconds for each cell, the library's beside those of the plain reader on the same row. A new row is a line of `cases`.
+//! Reading: nanoseconds for each cell, the library's beside those of the plain readers on the same row: the one that is under the library's rule for
+//! lent texts, and the one that copies. A new row is a line of `cases`.
 use crate::prose::{prose, Random};
 use crate::text::{capitals_then_small, Text};
 use crate::timing::{best, lines, rounds, LONG_LINES, PASSES, SHORT_LINES};
@@ -88,7 +89,11 @@ fn by_library(row: &[u8], text: &mut [u32]) -> Shown {
     read(row, text).map_err(|refusal| (refusal.number as u8, refusal.second))
 }
 
-fn by_plain(row: &[u8], text: &mut [u32]) -> Shown {
+fn by_plain_lent(row: &[u8], text: &mut [u32]) -> Shown {
+    plain::read_lent(row, text).map_err(plain::Refusal::shown)
+}
+
+fn by_plain_copying(row: &[u8], text: &mut [u32]) -> Shown {
     plain::read(row, text).map_err(plain::Refusal::shown)
 }
 
@@ -127,19 +132,23 @@ fn answers(case: &Case) -> String {
 /// Times every case and prints the table.
 pub fn run() {
     let cases = cases();
-    let mut best = vec![[f64::INFINITY; 2]; cases.len()];
+    let mut best = vec![[f64::INFINITY; 3]; cases.len()];
     for _ in 0..PASSES {
-        for (case, [library, plain]) in cases.iter().zip(&mut best) {
+        for (case, [library, lent, copying]) in cases.iter().zip(&mut best) {
             *library = library.min(time(case, by_library));
-            *plain = plain.min(time(case, by_plain));
+            *lent = lent.min(time(case, by_plain_lent));
+            *copying = copying.min(time(case, by_plain_copying));
         }
     }
-    println!("{:<34}{:>9}{:>13}{:>12}{:>11}{:>11}{:>7}", "row", "cells", "answer", "ns a call", "ns a cell", "plain", "ratio");
-    for (case, [library, plain]) in cases.iter().zip(best) {
+    println!("{:>79}{:>18}{:>18}", "library", "plain, lent", "plain, copying");
+    print!("{:<34}{:>9}{:>13}{:>12}{:>11}", "row", "cells", "answer", "ns a call", "ns a cell");
+    println!("{0:>11}{1:>7}{0:>11}{1:>7}", "ns a cell", "ratio");
+    for (case, [library, lent, copying]) in cases.iter().zip(best) {
         assert!(case.lines.iter().all(|line| line.row.len() <= LONGEST_ROW), "{}: rows short enough", case.name);
         let cells = case.lines.iter().map(|line| line.row.len()).sum::<usize>() as f64 / case.lines.len() as f64;
         let each = |call: f64| if cells == 0.0 { format!("({call:.1})") } else { format!("{:.2}", call / cells) };
-        let (name, answer, ratio) = (case.name, answers(case), library / plain);
-        println!("{name:<34}{cells:>9.1}{answer:>13}{library:>12.1}{:>11}{:>11}{ratio:>7.2}", each(library), each(plain));
+        let beside = |plain: f64| format!("{:>11}{:>7.2}", each(plain), library / plain);
+        let (name, answer) = (case.name, answers(case));
+        println!("{name:<34}{cells:>9.1}{answer:>13}{library:>12.1}{:>11}{}{}", each(library), beside(lent), beside(copying));
     }
 }

@@ -18,13 +18,10 @@ pub const D2: usize = cell("2");
 pub const D3: usize = cell("3");
 pub const D5: usize = cell("5");
 pub const D6: usize = cell("6");
-pub const D26: usize = cell("26");
-pub const D35: usize = cell("35");
 pub const D36: usize = cell("36");
 pub const D45: usize = cell("45");
 pub const D46: usize = cell("46");
 pub const D135: usize = cell("135");
-pub const D235: usize = cell("235");
 pub const D236: usize = cell("236");
 pub const D356: usize = cell("356");
 pub const D456: usize = cell("456");
@@ -34,7 +31,7 @@ pub const D3456: usize = cell("3456");
 pub const END: usize = 64;
 
 /// A capital's code point is that of its small letter less this.
-pub const TO_SMALL: u32 = 32;
+const TO_SMALL: u32 = 32;
 
 #[rustfmt::skip]
 const LETTERS: [(char, &str); 33] = [
@@ -58,8 +55,12 @@ const LOWER_DIGITS: [(char, &str); 10] = [
 const PUNCTUATION: [(char, &str); 8] =
     [(' ', "0"), ('.', "3"), (',', "2"), (';', "23"), (':', "25"), ('(', "126"), (')', "345"), ('=', "2356")];
 
+/// The marks of one cell that open a pair, and, in the same order, those that close it.
+const OPENERS: [(char, &str); 4] = [('¿', "26"), ('¡', "235"), ('«', "236"), ('\u{E000}', "35")];
+const CLOSERS: [(char, &str); 4] = [('?', "26"), ('!', "235"), ('»', "236"), ('\u{E001}', "35")];
+
 /// From a byte, or `END`, to a code point: 0 where there is none. A byte's number of places, so that no look-up has a bound to test.
-type Table = [u32; 256];
+pub type Table = [u32; 256];
 
 const fn with(mut table: Table, list: &[(char, &str)]) -> Table {
     let mut i = 0;
@@ -82,42 +83,62 @@ pub static LOWER: Table = with([0; 256], &LOWER_DIGITS);
 /// Small letters, and signs of one cell that mean the same wherever a sign may start.
 pub static ALONE: Table = with(with([0; 256], &LETTERS), &PUNCTUATION);
 
-/// The capital of a letter's cell.
-pub fn capital(cell: usize) -> Option<u32> {
-    match SMALL[cell] {
-        0 => None,
-        small => Some(small - TO_SMALL),
+/// Capitals, over the cells of their letters.
+pub static CAPITAL: Table = capitals();
+
+const fn capitals() -> Table {
+    let mut table = with([0; 256], &LETTERS);
+    let mut i = 0;
+    while i < LETTERS.len() {
+        table[cell(LETTERS[i].1)] -= TO_SMALL;
+        i += 1;
     }
+    table
 }
 
-/// A sign of two cells, but not ‘ or ’, nor `>`.
+/// The marks of one cell that open a pair.
+pub static OPENER: Table = with([0; 256], &OPENERS);
+
+/// Those that close it.
+pub static CLOSER: Table = with([0; 256], &CLOSERS);
+
+/// Their kinds: a bit for each.
+pub static KIND: Table = kinds();
+
+/// The kind of ‘ and ’, which have two cells.
+pub const QUOTES: u32 = 1 << OPENERS.len();
+
+const fn kinds() -> Table {
+    let mut table = [0; 256];
+    let mut i = 0;
+    while i < OPENERS.len() {
+        table[cell(OPENERS[i].1)] = 1 << i;
+        i += 1;
+    }
+    table
+}
+
+// The second cell of a sign of two cells, but not of ‘ or ’, nor of `>`: a table for each first cell.
+static AFTER_5: Table = with([0; 256], &[('{', "123"), ('<', "13"), ('\\', "3"), ('£', "2346"), ('†', "1235")]);
+static AFTER_6: Table = with([0; 256], &[('/', "2"), ('&', "12346")]);
+static AFTER_45: Table = with([0; 256], &[('¢', "14")]);
+static AFTER_456: Table = with([0; 256], &[('}', "2"), ('%', "356"), ('€', "15"), ('$', "234"), ('¥', "13456"), ('₿', "12")]);
+
+/// A sign of two cells that one of these tables has.
+#[inline(always)]
 pub fn two_cells(first: usize, then: usize) -> Option<u32> {
-    const AMPERSAND: usize = cell("12346");
-    const B: usize = cell("12");
-    const C: usize = cell("14");
-    const E: usize = cell("15");
-    const E_ACUTE: usize = cell("2346");
-    const K: usize = cell("13");
-    const L: usize = cell("123");
-    const R: usize = cell("1235");
-    const S: usize = cell("234");
-    const Y: usize = cell("13456");
-    let sign = match (first, then) {
-        (D5, L) => '{',
-        (D5, K) => '<',
-        (D5, D3) => '\\',
-        (D5, E_ACUTE) => '£',
-        (D5, R) => '†',
-        (D6, D2) => '/',
-        (D6, AMPERSAND) => '&',
-        (D45, C) => '¢',
-        (D456, D2) => '}',
-        (D456, D356) => '%',
-        (D456, E) => '€',
-        (D456, S) => '$',
-        (D456, Y) => '¥',
-        (D456, B) => '₿',
+    let after = match first {
+        D5 => &AFTER_5,
+        D6 => &AFTER_6,
+        D45 => &AFTER_45,
+        D456 => &AFTER_456,
         _ => return None,
     };
-    Some(sign.into())
+    known(after[then])
+}
+
+/// What a table gives, if it is a code point.
+#[inline(always)]
+pub fn known(point: u32) -> Option<u32> {
+    (point != 0).then_some(point)
 }

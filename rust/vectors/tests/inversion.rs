@@ -1,4 +1,4 @@
-//! The plain reader, which the other tests compare the library's reading with, held to the library's transcribing: it must give a row exactly the
+//! The plain readers, which the other tests compare the library's reading with, held to the library's transcribing: they must give a row exactly the
 //! text whose row it is. All texts of up to three code points, all rows of up to three cells, and long texts at random.
 use omdurgash::{transcribe, LONGEST_ROW};
 use std::collections::HashMap;
@@ -27,12 +27,25 @@ fn sequences(length: usize, bound: usize) -> impl Iterator<Item = Vec<usize>> {
     })
 }
 
-/// What the plain reader gives, or the refusal's two numbers.
+/// What every element holds before a call: it is no code point.
+const UNTOUCHED: u32 = 0xA5A5_A5A5;
+
+type Reader = fn(&[u8], &mut [u32]) -> Result<usize, plain::Refusal>;
+
+/// What one of the plain readers gives, or the refusal's two numbers. The elements around and behind the text are to be as they were.
+fn by(reader: Reader, row: &[u8]) -> Result<Vec<u32>, (u8, usize)> {
+    let mut memory = vec![UNTOUCHED; 1 + row.len() + 1];
+    let answer = reader(row, &mut memory[1..=row.len()]).map_err(plain::Refusal::shown);
+    let behind = 1 + answer.unwrap_or(0);
+    assert!(memory[..1].iter().chain(&memory[behind..]).all(|&element| element == UNTOUCHED), "{row:?}: written to beside the text");
+    answer.map(|_| memory[1..behind].to_vec())
+}
+
+/// What both plain readers give.
 fn plainly(row: &[u8]) -> Result<Vec<u32>, (u8, usize)> {
-    let mut text = vec![0; row.len()];
-    let length = plain::read(row, &mut text).map_err(plain::Refusal::shown)?;
-    text.truncate(length);
-    Ok(text)
+    let text = by(plain::read, row);
+    assert_eq!(by(plain::read_lent, row), text, "{row:?}: the plain readers differ");
+    text
 }
 
 /// The row of print that is accepted.

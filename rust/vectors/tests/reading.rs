@@ -1,5 +1,5 @@
 //! Reading and stepping through the library: every vector at several rooms and places, every row of up to two cells, the greatest lengths, and
-//! rows at random, on which the plain reader and the library must agree.
+//! rows at random, on which the plain readers and the library must agree. The plain readers go through the same, steps apart.
 use omdurgash::{read, step, transcribe, Number, Refusal, Step, LONGEST_ROW, LONGEST_TEXT};
 use std::collections::HashMap;
 use std::fs::read_to_string;
@@ -22,7 +22,7 @@ const MOST_ROOM: usize = LONGEST_TEXT + 4;
 /// What every element holds before a call: it is no code point.
 const UNTOUCHED: u32 = 0xA5A5_A5A5;
 
-/// So many elements stand before the lent text, and as many after it. The library must not touch them.
+/// So many elements stand before the lent text, and as many after it. A reader must not touch them.
 const GUARD: usize = 16;
 
 /// The two numbers of a refusal.
@@ -31,8 +31,11 @@ type No = (u8, usize);
 /// What a row must give where there is room enough.
 type Due = Result<Vec<u32>, No>;
 
-/// A reader: the library's, or the plain one.
+/// A reader: the library's, or a plain one.
 type Reader = fn(&[u8], &mut [u32]) -> Result<usize, No>;
+
+const READERS: [(&str, Reader); 3] =
+    [("the library", by_library), ("the plain reader, lent", by_plain_lent), ("the plain reader, copying", by_plain_copying)];
 
 const NEEDS_ROOM: u8 = Number::NeedsRoom as u8;
 
@@ -44,14 +47,18 @@ fn by_library(row: &[u8], text: &mut [u32]) -> Result<usize, No> {
     read(row, text).map_err(no)
 }
 
-fn by_plain(row: &[u8], text: &mut [u32]) -> Result<usize, No> {
+fn by_plain_lent(row: &[u8], text: &mut [u32]) -> Result<usize, No> {
+    plain::read_lent(row, text).map_err(plain::Refusal::shown)
+}
+
+fn by_plain_copying(row: &[u8], text: &mut [u32]) -> Result<usize, No> {
     plain::read(row, text).map_err(plain::Refusal::shown)
 }
 
-/// What the plain reader gives where there is room enough.
+/// What the plain reader that copies gives where there is room enough.
 fn plainly(row: &[u8]) -> Due {
     let mut text = vec![0; LONGEST_TEXT];
-    let length = by_plain(row, &mut text)?;
+    let length = by_plain_copying(row, &mut text)?;
     text.truncate(length);
     Ok(text)
 }
@@ -86,6 +93,12 @@ fn trial(reader: Reader, row: &[u8], due: &Due, room: usize) -> Result<(), Strin
             Err(format!("room {room}: element {place} of the text is {:X} and should be {:X}", memory[at], wanted[at]))
         }
     }
+}
+
+/// One reading at a room by each reader. Gives what went wrong.
+fn trials(row: &[u8], due: &Due, room: usize) -> Vec<String> {
+    let wrong = |(name, reader)| trial(reader, row, due, room).err().map(|what| format!("{name}, {what}"));
+    READERS.into_iter().filter_map(wrong).collect()
 }
 
 /// Places to step at: all of a short row and two past its end; of a long one the first and the last, and some between. And the greatest.
@@ -140,12 +153,11 @@ fn steps_join(row: &[u8], text: &[u32]) -> Result<(), String> {
     }
 }
 
-/// A row with a name: every room, through both readers, and every place. Gives what went wrong.
+/// A row with a name: every room, through every reader, and every place. Gives what went wrong.
 fn hold(name: &str, row: &[u8], due: &Due) -> Vec<String> {
     let mut wrong = Vec::new();
     for room in rooms(due) {
-        wrong.extend(trial(by_library, row, due, room).err());
-        wrong.extend(trial(by_plain, row, due, room).err().map(|what| format!("the plain reader, {what}")));
+        wrong.extend(trials(row, due, room));
     }
     wrong.extend(steps(row, due, &places(row)).err());
     if let Ok(text) = due {
@@ -217,7 +229,8 @@ fn every_row_of_two_cells() {
     for row in [Vec::new()].into_iter().chain(ones).chain(twos) {
         let due = texts.get(&row).cloned().ok_or((8, 0));
         for room in 0..=3 {
-            trial(by_library, &row, &due, room).unwrap_or_else(|what| panic!("{row:?}: {what}"));
+            let wrong = trials(&row, &due, room);
+            assert!(wrong.is_empty(), "{row:?}:\n{}\n", wrong.join("\n"));
         }
         steps(&row, &due, &[0, 1, 2, 3]).unwrap_or_else(|what| panic!("{row:?}: {what}"));
         rows += 1;
@@ -226,7 +239,7 @@ fn every_row_of_two_cells() {
     say(&format!("{rows} rows of up to two cells, {with_text} of them with a text"));
 }
 
-/// Asks for a refusal at several rooms and places, through both readers.
+/// Asks for a refusal at several rooms and places, through every reader.
 fn refused(what: &str, row: &[u8], no: No) {
     let wrong = hold(what, row, &Err(no));
     assert!(wrong.is_empty(), "\n{}\n", wrong.join("\n"));
@@ -312,7 +325,7 @@ fn random_row(random: &mut Random, room: &mut [u8]) -> Vec<u8> {
 }
 
 #[test]
-fn plain_reader_and_library_agree_on_random_rows() {
+fn plain_readers_and_library_agree_on_random_rows() {
     let (random, room) = (&mut Random(0x9E37_79B9_7F4A_7C15), &mut vec![0; LONGEST_ROW][..]);
     let mut counts = [0; 9];
     for _ in 0..200_000 {
@@ -322,7 +335,8 @@ fn plain_reader_and_library_agree_on_random_rows() {
             0 => random.below(row.len() + 2),
             _ => due.as_ref().map_or(0, Vec::len) + random.below(2),
         };
-        trial(by_library, &row, &due, room).unwrap_or_else(|what| panic!("{row:?}: {what}"));
+        let wrong = trials(&row, &due, room);
+        assert!(wrong.is_empty(), "{row:?}:\n{}\n", wrong.join("\n"));
         let place = random.below(row.len() + 2);
         steps(&row, &due, &[0, place]).unwrap_or_else(|what| panic!("{row:?}: {what}"));
         counts[due.map_or_else(|(number, _)| usize::from(number), |_| 0)] += 1;
