@@ -29,6 +29,7 @@ use Rattle.signs.specs.Readings as reading
 use Rattle.signs.specs.declared.Step.{Step}
 use Rattle.signs.specs.declared.Step.the-variants as variant
 use Rattle.signs.proofs.Settling.{is-true}
+use Rattle.signs.proofs.Tested.{sights}
 use Rattle.signs.proofs.Turning.{sight-small}
 
 -- THE CELL AT A PLACE
@@ -65,8 +66,8 @@ past-words : (c : ℕ) → noCell < suc c → wordOf c ≡ 0
 unfolding words
 past-words c l = List·getD-eq-default words 0 {n = c} (omega arith)
 
-pub no-word : (c : ℕ) → Rest Unit (upto 64) c → 0 ≡ wordOf c
-no-word c r = sym (past-words c (omega (arith, none-below 64 c (rest-none Unit (upto 64) c r .1))))
+pub no-word : (c : ℕ) → Rest Unit (upto noCell) c → 0 ≡ wordOf c
+no-word c r = sym (past-words c (omega (arith, none-below noCell c (rest-none Unit (upto noCell) c r .1))))
 
 -- a field of a cell that is none of the keys: those that have it are all among them
 pub no-field : (g : ℕ → ℕ) → g 0 ≡ 0 → (ks : List ℕ) → T (below (λ c. among ks c || eqb (g (wordOf c)) 0) noCell) → (c : ℕ) → Rest Unit ks c
@@ -332,7 +333,7 @@ module _ (row : Row) (at m o w : ℕ) (e : w ≡ wordOf (cellOf row at)) where
         (chosen-rest (onceList w) d (askedBy d w (cellOf row at) (cellOf row (at + 1)) (cellOf row (at + 2))) r)
 
 -- where the table says that a cell is a mark, its kind is one that is counted
-marks-right : T (below (λ x. below (λ m. not (eqb (deedOf m (classIn (wordOf x))) act.mark) || ltb (kindIn (wordOf x)) kinds) modeCount) 65)
+marks-right : T (below (λ x. below (λ m. not (eqb (deedOf m (classIn (wordOf x))) act.mark) || ltb (kindIn (wordOf x)) kinds) modeCount) sights)
 unfolding deeds words
 marks-right = tt
 
@@ -340,7 +341,7 @@ pub kind-known : (row : Row) (at m w d k : ℕ) → m < modeCount → w ≡ word
 kind-known row at m w d k l e told q h =
     let x : ℕ = cellOf row at in
     let t = at-below (λ m. not (eqb (deedOf m (classIn (wordOf x))) act.mark) || ltb (kindIn (wordOf x)) kinds) modeCount
-    (at-below (λ x. below (λ m. not (eqb (deedOf m (classIn (wordOf x))) act.mark) || ltb (kindIn (wordOf x)) kinds) modeCount) 65 marks-right x (sight-small (getD row at noCell))) m l in
+    (at-below (λ x. below (λ m. not (eqb (deedOf m (classIn (wordOf x))) act.mark) || ltb (kindIn (wordOf x)) kinds) modeCount) sights marks-right x (sight-small (getD row at noCell))) m l in
     let f : deedOf m (classIn (wordOf x)) ≡ act.mark = ap (λ (v : ℕ). deedOf m (classIn v)) (sym e) ∙ sym told ∙ q in
     let g : kindIn (wordOf x) < kinds =
     ltb→lt (kindIn (wordOf x)) kinds
