@@ -1,6 +1,7 @@
 // The rows of standard input: a line for each, in dots as the paper writes them, `3456-23-1`; 0 is the blank cell.
-use crate::limits;
 use crate::say;
+use crate::trial;
+use crate::trial::UNTOUCHED;
 ghost use Prim.Native.Nat.{_≤_};
 ghost use lib.ListN.{length};
 
@@ -8,8 +9,13 @@ const LINE_FEED: u8 = 10;
 
 const BETWEEN_CELLS: u8 = b'-';
 
+const BLANK: u8 = 0;
+
 // No row of standard input is longer.
-const CELLS_ROOM: usize = 16;
+const CELLS_ROOM: usize = 64;
+
+// A sign of one cell may be two code points, and none is more.
+const TEXT_ROOM: usize = 128;
 
 // Where the line that starts at `from` ends.
 fn line_end(file: &[u8], from: usize) -> usize
@@ -65,20 +71,27 @@ fn put_cells(line: &[u8], row: &mut [u8]) -> usize {
     count + 1
 }
 
-// A line: its row is tried, and the answer told.
+// Tries the row of a line, and tells the answer and the text.
+fn tell_row(line: &[u8], row: &[u8]) {
+    let mut text = [UNTOUCHED; TEXT_ROOM];
+    let mut back = [BLANK; CELLS_ROOM];
+    let answer = trial::tried(row, &mut text, &mut back);
+    say::name(line);
+    say::answer_and_text(answer.number, answer.second, &text, trial::written(answer));
+}
+
+// A line: its row is tried.
 fn tell_line(file: &[u8], from: usize, to: usize)
     requires { ⌜ (from ≤ to) × (to ≤ length (now file)) ⌝ }
 {
-    let mut row = [0u8; CELLS_ROOM];
+    let mut row = [BLANK; CELLS_ROOM];
     let line = &file[from..to];
     let count = put_cells(line, &mut row);
     if CELLS_ROOM < count {
         say::too_long();
         return;
     }
-    let answer = limits::answer_to(&row[..count]);
-    say::name(line);
-    say::answer(answer.number, answer.second);
+    tell_row(line, &row[..count]);
 }
 
 // Every line.

@@ -47,7 +47,7 @@ const MOST_ROOM: usize = 4;
 const ABC_TEXT: usize = 8;
 
 // Tries a row, with room for the longest text and one more.
-pub fn answer_to(row: &[u8]) -> desk::Shown {
+fn answer_to(row: &[u8]) -> desk::Shown {
     let mut text = [UNTOUCHED; TEXT_ROOM];
     let mut back = [BLANK; LONGEST_ROW];
     trial::tried(row, &mut text, &mut back)

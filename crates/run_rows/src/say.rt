@@ -55,11 +55,42 @@ pub fn room(n: usize) {
     number(n);
 }
 
-// ` -> 8 0`, behind a name
-pub fn answer(first: usize, second: usize) {
+fn numbers(first: usize, second: usize) {
     text(b" ->");
     number(first);
     number(second);
+}
+
+fn point(code_point: u32) {
+    number(code_point as usize);
+}
+
+// The code point at a place. (Past the end there is none.)
+fn point_at(points: &[u32], place: usize) {
+    if place < points.len() {
+        point(points[place]);
+    }
+}
+
+// The first code points of a text, in decimal.
+fn first_points(points: &[u32], count: usize) {
+    let mut i = 0;
+    while i < count {
+        point_at(points, i);
+        i += 1;
+    }
+}
+
+// ` -> 8 0`, behind a name
+pub fn answer(first: usize, second: usize) {
+    numbers(first, second);
+    text(b"\n");
+}
+
+// ` -> 0 2 49 46`, behind a name: the answer, and of what was lent so many code points
+pub fn answer_and_text(first: usize, second: usize, points: &[u32], count: usize) {
+    numbers(first, second);
+    first_points(points, count);
     text(b"\n");
 }
 

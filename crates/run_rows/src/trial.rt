@@ -20,7 +20,7 @@ const NO_LEAD: u32 = 0;
 const NOWHERE: usize = 0xFFFFFFFFFFFFFFFF;
 
 // A row is asked for the signs at its first places, and a row of fewer cells at all of them and at some past its end.
-const PLACES_ASKED: usize = 8;
+const PLACES_ASKED: usize = 64;
 
 const PLACES_PAST: usize = 3;
 
@@ -92,7 +92,7 @@ fn gives_back(text: &[u32], row: &[u8], back: &mut [u8]) -> bool {
 
 // How many places are asked, from the row's first.
 fn places_of(row: &[u8]) -> usize
-    ensures { λ r. ⌜ r ≤ 11 ⌝ }
+    ensures { λ r. ⌜ r ≤ 67 ⌝ }
 {
     if PLACES_ASKED < row.len() {
         return PLACES_ASKED;

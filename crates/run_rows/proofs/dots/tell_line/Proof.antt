@@ -29,17 +29,11 @@ returns c = tt
 array-share-prefix-row : tie.Need-array-share-prefix-row
 array-share-prefix-row c = omega arith
 
-slice-aggregate-answer-to : tie.Need-slice-aggregate-answer-to
-slice-aggregate-answer-to c = simp length-take (omega arith)
+slice-aggregate-tell-row : tie.Need-slice-aggregate-tell-row
+slice-aggregate-tell-row c = simp length-take (omega arith)
 
-answer-to-requires : tie.Need-answer-to-requires
-answer-to-requires c κs = tt
-
-name-requires : tie.Need-name-requires
-name-requires c κs = tt
-
-answer-requires : tie.Need-answer-requires
-answer-requires c κs = tt
+tell-row-requires : tie.Need-tell-row-requires
+tell-row-requires c κs = tt
 
 returns-2 : tie.Need-returns-2
 returns-2 c = tt
@@ -56,8 +50,6 @@ tell-line-spec =
     too-long-requires
     returns
     array-share-prefix-row
-    slice-aggregate-answer-to
-    answer-to-requires
-    name-requires
-    answer-requires
+    slice-aggregate-tell-row
+    tell-row-requires
     returns-2)
