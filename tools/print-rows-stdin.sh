@@ -5,4 +5,5 @@
 set -eu
 cd "$(dirname "$0")/.."
 
-sh tools/row-vectors.sh | cut -f1
+rows=$(sh tools/row-vectors.sh)
+printf '%s\n' "$rows" | cut -f1

@@ -6,6 +6,8 @@
 set -eu
 cd "$(dirname "$0")/.."
 
+rows=$(sh tools/row-vectors.sh)
+
 cat <<'LINES'
 rows of one cell that are read: 42
 rows of two cells that are read: 1826
@@ -32,4 +34,4 @@ room 3 -> 0 3
 room 4 -> 0 3
 LINES
 
-sh tools/row-vectors.sh | awk -F '\t' '{ print $1 " -> " $2 ($3 == "" ? "" : " " $3) }'
+printf '%s\n' "$rows" | awk -F '\t' '{ print $1 " -> " $2 ($3 == "" ? "" : " " $3) }'

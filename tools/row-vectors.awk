@@ -11,7 +11,7 @@
 # reading gives the print back, normalised. Left out: the empty row, rows above MOST cells, and rows that are given as bytes. The
 # program that runs these lines has its own part for those.
 #
-# Run it from the top of the repository: LC_ALL=C awk -v MOST=64 -f tools/row-vectors.awk vectors/cells-to-print.txt vectors/print-to-cells.txt
+# tools/row-vectors.sh runs it.
 
 function fail(message) {
     print "row-vectors: " message > "/dev/stderr"

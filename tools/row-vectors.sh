@@ -3,4 +3,6 @@
 set -eu
 export LC_ALL=C
 
-awk -v MOST=64 -f tools/row-vectors.awk vectors/cells-to-print.txt vectors/print-to-cells.txt
+most=$(sed -n 's/^const CELLS_ROOM: usize = \([0-9]*\);$/\1/p' crates/run_rows/src/dots.rt)
+[ -n "$most" ] || { echo 'row-vectors: no CELLS_ROOM in crates/run_rows/src/dots.rt' >&2; exit 1; }
+awk -v MOST="$most" -f tools/row-vectors.awk vectors/cells-to-print.txt vectors/print-to-cells.txt
