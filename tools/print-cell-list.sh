@@ -40,7 +40,7 @@ use lib.ListN.{getD}
 use Rattle.rules.specs.Cells.{dots}
 use Rattle.entries.specs.Chosen.{choose}
 use Rattle.signs.specs.Modes.{$modes}
-use Rattle.signs.specs.Fields.{$classes, pointAt, capitalAt, figureAt, lowerAt, kindAt, thenAt, usualAt}
+use Rattle.signs.specs.Fields.{$classes, usualAt, pointAt, capitalAt, figureAt, lowerAt, kindAt, classAt, thenAt}
 
 -- WHAT A CLASS IS: its number, the mode after it where it is read as usual, and the modes in which it is
 TEXT
@@ -61,7 +61,7 @@ END {
         if (!(c in usual)) continue
         print "abbrev as" toupper(substr(camel(c), 1, 1)) substr(camel(c), 2) " : ℕ"
         print "as" toupper(substr(camel(c), 1, 1)) substr(camel(c), 2) " ="
-        print "    " camel(c) " + thenAt * " (c ~ /LETTER|B_TO_J/ ? "mixed" : "free")
+        print "    classAt * " camel(c) " + thenAt * " (c ~ /LETTER|B_TO_J/ ? "mixed" : "free")
         print "    + usualAt * (" usual[c] ")"
         print ""
     }
@@ -77,8 +77,9 @@ TEXT
 $1 == "usual" { usual[$2] = 1; next }
 $1 == "two" { next }
 {
-    word = camel($3)
-    if ($3 in usual) word = "as" toupper(substr(word, 1, 1)) substr(word, 2)
+    word = "classAt * " camel($3)
+    if ($3 == "NOTHING") word = camel($3)
+    if ($3 in usual) word = "as" toupper(substr(camel($3), 1, 1)) substr(camel($3), 2)
     if ($4 != "none") word = word " + pointAt * " $4
     if ($5 != "none") word = word " + capitalAt * " $5
     if ($6 != "none") word = word " + figureAt * " $6

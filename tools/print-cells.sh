@@ -24,7 +24,7 @@ TEXT
 
 # In the order of the layout: an underscore goes before a letter.
 {
-    for name in CAPITAL_AT FIGURE_AT FREE KIND_AT LOWER_AT MIXED NO_POINT POINT_AT THEN_AT USUAL_AT; do echo "$name"; done
+    for name in CAPITAL_AT CLASS_AT FIGURE_AT FREE KIND_AT LOWER_AT MIXED NO_POINT POINT_AT THEN_AT USUAL_AT; do echo "$name"; done
     printf '%s\n' "$cells" | awk -F '\t' '$1 != "two" { print $3 }'
     printf '%s\n' "$places" | awk -F '\t' '$3 == "AS_USUAL" { print $2 }'
 } | tr _ ' ' | sort -u | tr ' ' _ | sed 's/.*/use crate::&;/'
@@ -63,7 +63,7 @@ END {
     for (i = 1; i <= classes; i++) {
         c = class[i]
         if (!(c in usual)) continue
-        print "const AS_" c ": u64 = " c
+        print "const AS_" c ": u64 = CLASS_AT * " c
         print "    + THEN_AT * " (c ~ /LETTER|B_TO_J/ ? "MIXED" : "FREE") " as u64" usual[c] ";"
         print ""
     }
@@ -75,7 +75,7 @@ TEXT
 { printf '%s\n' "$places" | awk -F '\t' '$3 == "AS_USUAL" { split($4, name, " "); print "usual\t" name[1] }' | sort -u; printf '%s\n' "$cells"; } | awk -F '\t' '
 $1 == "usual" { usual[$2] = 1; next }
 $1 != "two" && $3 != "NOTHING" {
-    word = ($3 in usual ? "AS_" : "") $3
+    word = ($3 in usual ? "AS_" : "CLASS_AT * ") $3
     if ($4 != "none") word = word " + POINT_AT * " $4
     if ($5 != "none") word = word " + CAPITAL_AT * " $5
     if ($6 != "none") word = word " + FIGURE_AT * " $6

@@ -5,8 +5,8 @@ use mathlib.Core.Option.{Option, none, some}
 use Prim.Native.Nat.{ℕ, _+_, _≤_, _<_}
 use native.Mathlib.Omega.{arith}
 use native.Mathlib.Nat.{min-eq-left}
-use lib.ListN.{length}
-use Rattle.rules.specs.Cells.{Text, Row}
+use lib.ListN.{length, getD}
+use Rattle.rules.specs.Cells.{Text, Row, lastCell}
 use Rattle.rules.specs.Signs.{Sign, printOf}
 use Rattle.rules.specs.Rows.{Reads}
 use Rattle.rules.specs.Refusals.{tooLong, needsRoom, notACell, noText, longestText, longestRow, reported}
@@ -20,11 +20,10 @@ use Rattle.rows.specs.Laid.{laid}
 use Rattle.signs.specs.Left.{left}
 use Rattle.signs.specs.Print.{points}
 use Rattle.reader.specs.Promise.{Read, done, refused, Shows, sign-there, no-sign-there, row-refused}
-use Rattle.reader.specs.Passes.{FirstHigh, RefusesRow, Seen, heldAfter}
+use Rattle.reader.specs.Passes.{FirstHigh, RefusesRow}
 use Rattle.reader.specs.declared.Answer.{Answer}
 use Rattle.reader.specs.declared.Answer.the-variants.{Done, TooLong, NotACell, NoText, NeedsRoom}
 use Rattle.reader.specs.declared.Shown.the-variants as shown
-use Rattle.reader.proofs.Lending.{held-text}
 use Rattle.reader.proofs.Whole.{two-points-each, left-text, Told}
 
 -- THE ROW'S REFUSALS
@@ -36,15 +35,15 @@ module _ (r : Row) where
     pub row-not-cells : (n : ℕ) → FirstHigh r n → n < length r → RefusesRow castilian r (NotACell n)
     row-not-cells n f l = (notACell n, refl, not-a-cell n short l (f .there l) (f .below))
 
-    pub row-no-text : (n : ℕ) → FirstHigh r n → length r ≤ n → ((t : Text) → Reads castilian r t → ⊥) → RefusesRow castilian r NoText
-    row-no-text n f l none-reads = (noText, refl, no-text (record { short = short; cells = λ m h. f .below m (omega arith) }) none-reads)
+    pub row-no-text : ((m : ℕ) → m < length r → getD r m 0 ≤ lastCell) → ((t : Text) → Reads castilian r t → ⊥) → RefusesRow castilian r NoText
+    row-no-text cells none-reads = (noText, refl, no-text (record { short = short; cells = cells }) none-reads)
 
     -- a row that has a text is of cells
     proper : (t : Text) → Reads castilian r t → ProperRow r
     proper t e = record { short = short; cells = cells-of-text castilian sane t r e }
 
     -- A ROW THAT IS READ: what a walk told of it
-    module _ {place c l p k : ℕ} (told : Told place (left 0 0 r) c l p k) where
+    module _ {c : ℕ} (told : Told (left 0 0 r) c) where
       abbrev text : Text
       text = printOf (told .signs)
 
@@ -71,35 +70,27 @@ module _ (r : Row) where
           (subst (λ (n : ℕ). RowAnswer castilian r (length lent) (refuses (needsRoom n))) (sym (told .count))
           (text-needs-room text (accepted h) (omega (arith, told .count)))))
 
-      pub read-done : (lent new : List ℕ) → new ≡ heldAfter (left 0 0 r) lent → c ≤ longestText → c ≤ length lent → Read castilian r lent (Done c) new
+      pub read-done : (lent new : List ℕ) → new ≡ laid text lent → c ≤ longestText → c ≤ length lent → Read castilian r lent (Done c) new
       read-done lent new is h j =
-          subst (Read castilian r lent (Done c))
-          (sym (is ∙ ap (λ (x : Option (List Sign)). heldAfter x lent) (told .are) ∙ held-text (told .signs) lent (omega (arith, told .count))))
+          subst (Read castilian r lent (Done c)) (sym is)
           (subst (λ (n : ℕ). Read castilian r lent (Done n) (laid text lent)) (sym (told .count))
           (done text (rules.read text (accepted h) (omega (arith, told .count)))))
 
       -- THE ENDS OF `step` that are no refusal
-      at-place : c ≤ longestText → (x : Option Sign) → signAt (told .signs) place ≡ x → Stepped castilian r place (shows (shownBy x place))
-      at-place h x e =
+      at-place : (place : ℕ) → c ≤ longestText → (x : Option Sign) → signAt (told .signs) place ≡ x → Stepped castilian r place (shows (shownBy x place))
+      at-place place h x e =
           subst (λ (y : Option Sign). Stepped castilian r place (shows (shownBy y place)))
           (ap (λ (ss : List Sign). signAt ss place) (left-text r (told .signs) (told .are) .1) ∙ e) (stepped text (accepted h))
 
-      pub step-still : c ≤ longestText → k ≡ place → Shows castilian r place shown.Still
-      step-still h e = go (signAt (told .signs) place) refl (told .seen)
-        where
-          go : (x : Option Sign) → signAt (told .signs) place ≡ x → Seen place x l p k → Shows castilian r place shown.Still
-          go none q s = no-sign-there (at-place h none q)
-          go (some g) q s = absurd (omega (arith, s .2))
+      pub step-still : (place : ℕ) → c ≤ longestText → signAt (told .signs) place ≡ none → Shows castilian r place shown.Still
+      step-still place h e = no-sign-there (at-place place h none e)
 
-      pub step-sign : c ≤ longestText → (k ≡ place → ⊥) → Shows castilian r place (shown.Sign l p k)
-      step-sign h e = go (signAt (told .signs) place) refl (told .seen)
-        where
-          go : (x : Option Sign) → signAt (told .signs) place ≡ x → Seen place x l p k → Shows castilian r place (shown.Sign l p k)
-          go none q s = absurd (e s)
-          go (some g) q s =
-              sign-there l p k
-              (subst (λ (n : ℕ). Stepped castilian r place (shows (record { points = points l p; next = n }))) (sym (s .1))
-              (subst (λ (u : Text). Stepped castilian r place (shows (record { points = u; next = place + length (g .taken) }))) (s .0) (at-place h (some g) q)))
+      pub step-sign : (place : ℕ) → c ≤ longestText → (g : Sign) → signAt (told .signs) place ≡ some g → (l p k : ℕ) → g .shown ≡ points l p
+          → k ≡ place + length (g .taken) → Shows castilian r place (shown.Sign l p k)
+      step-sign place h g e l p k print next =
+          sign-there l p k
+          (subst (λ (n : ℕ). Stepped castilian r place (shows (record { points = points l p; next = n }))) (sym next)
+          (subst (λ (u : Text). Stepped castilian r place (shows (record { points = u; next = place + length (g .taken) }))) print (at-place place h (some g) e)))
 
   -- a refusal of the row is what `read` and `step` answer
   pub read-refused : (a : Answer) → RefusesRow castilian r a → (lent new : List ℕ) → new ≡ lent → Read castilian r lent a new

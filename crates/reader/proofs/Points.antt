@@ -14,7 +14,7 @@ use Rattle.rows.proofs.Laid.{wrote-one, wrote-two}
 use Rattle.signs.specs.Print.{points}
 
 -- a lead of 0 is none
-known : (l : ℕ) → (l ≡ 0) ⊎ (l ≡ 0 → ⊥)
+pub known : (l : ℕ) → (l ≡ 0) ⊎ (l ≡ 0 → ⊥)
 known l = go (eqb l 0) refl
   where
     go : (b : Bool) → eqb l 0 ≡ b → (l ≡ 0) ⊎ (l ≡ 0 → ⊥)

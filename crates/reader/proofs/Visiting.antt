@@ -25,16 +25,14 @@ use Rattle.rules.proofs.Steps.{walks, joined-signs}
 use Rattle.signs.specs.Print.{points}
 use Rattle.reader.specs.Promise.{Shows, sign-there, no-sign-there}
 use Rattle.reader.specs.Claims.{StillExactly, Visits, printBy, WalkShowsText}
+use Rattle.reader.specs.Passes.{CodedSign}
 use Rattle.reader.specs.declared.Shown.the-variants.{Still}
 use Rattle.reader.proofs.Points.{points-width}
 
 pub shows-same : (x y : screen.Shown) → shows x ≡ shows y → x ≡ y
 shows-same x y e = cc
 
--- shown by a lead, or none, and a code point
-abbrev pub CodedSign : Sign → Type 0
-CodedSign s = (l : ℕ) × (p : ℕ) × (s .shown ≡ points l p)
-
+-- each is shown by a lead, or none, and a code point
 abbrev pub Coded : List Sign → Type 0
 Coded [] = Unit {0}
 Coded (s ∷ ss) = CodedSign s × Coded ss

@@ -13,7 +13,6 @@ use Rattle.rules.specs.Sorts.{Table}
 use Rattle.rules.specs.Signs.{Sign, printOf}
 use Rattle.rules.specs.Pairs.{Opens}
 use Rattle.rules.specs.Rows.{Reads, signsOf}
-use Rattle.rules.specs.Screen.{signAt}
 use Rattle.rules.specs.Demands.{OneOrTwoPoints}
 use Rattle.rules.specs.Castilian.{castilian}
 use Rattle.rules.proofs.Finite.{nothing}
@@ -25,9 +24,6 @@ use Rattle.rules.proofs.Signs.{signs-join, cell-for-each-sign}
 use Rattle.rules.proofs.Castilian.{sane}
 use Rattle.pairs.proofs.Pairing.{none-open}
 use Rattle.signs.specs.Left.{signsBy, left}
-use Rattle.reader.specs.Passes.{Seen, Finds, finds-text, finds-none}
-use Rattle.reader.specs.declared.Walked.{Walked}
-use Rattle.reader.specs.declared.Walked.the-variants.{Text as TextOf, Nowhere}
 
 module _ (tb : Table) (held : Sane tb) (r : Row) where
   abbrev pub piecesIn : Option (List Piece)
@@ -81,29 +77,8 @@ module _ (r : Row) where
   pub left-none : left 0 0 r ≡ none → (t : Text) → Reads castilian r t → ⊥
   left-none e = no-text-of-none castilian sane r (sym left-is ∙ e)
 
--- WHAT A WALK TELLS: that there is no text; or the signs, their count, and what is seen
-pub told-nowhere : (place : ℕ) (x : Option (List Sign)) (w : Walked) → Finds place x w → w ≡ Nowhere → x ≡ none
-told-nowhere place x w (finds-text ss l p k h) e = let z : _≡_ {A = ℕ} 0 1 = cc in absurd (omega arith)
-told-nowhere place x w finds-none e = refl
-
-pub record Told (place : ℕ) (x : Option (List Sign)) (c l p k : ℕ) : Type 0 where
+-- WHAT WALKS TELL of a row that has a text: its signs, and how many code points they have
+pub record Told (x : Option (List Sign)) (c : ℕ) : Type 0 where
   pub signs : List Sign
   pub are : x ≡ some signs
   pub count : c ≡ length (printOf signs)
-  pub seen : Seen place (signAt signs place) l p k
-
-pub told-text : (place : ℕ) (x : Option (List Sign)) (w : Walked) (c l p k : ℕ) → Finds place x w → w ≡ TextOf c l p k → Told place x c l p k
-told-text place x w c l p k (finds-text ss l' p' k' h) e =
-    let a : length (printOf ss) ≡ c = cc in
-    let b : l' ≡ l = cc in
-    let d : p' ≡ p = cc in
-    let f : k' ≡ k = cc in
-    record {
-      signs = ss;
-      are = refl;
-      count = sym a;
-      seen =
-          subst (λ (i : ℕ). Seen place (signAt ss place) i p k) b
-          (subst (λ (i : ℕ). Seen place (signAt ss place) l' i k) d (subst (λ (i : ℕ). Seen place (signAt ss place) l' p' i) f h));
-    }
-told-text place x w c l p k finds-none e = let z : _≡_ {A = ℕ} 0 1 = cc in absurd (omega arith)

@@ -1,21 +1,28 @@
 // Cells to print. `read` reads a whole row, `step` gives the sign at a place of one; what they promise is specs/Promise.antt.
 // One loop walks the row sign by sign. Between two signs it knows a mode and which pairs are open; both follow from the cells before, and neither is kept
-// from one call to the next. `read` walks twice: first without room, so that nothing is written before all is known to fit.
+// from one call to the next. `read` walks twice: first without room, so that nothing is written before all is known to fit. `step` walks once, in three
+// parts: up to its place, over the sign there, and to the end.
 use signs::FREE;
+use signs::LAST_CELL;
 use signs::NO_POINT;
 use signs::Step;
+ghost use mathlib.Core.Bool.{_&&_};
+ghost use mathlib.Core.Logic.{_⊎_};
 ghost use mathlib.Core.Path.{_≡_};
-ghost use Prim.Native.Nat.{ℕ, _≤_};
-ghost use lib.ListN.{length};
+ghost use Prim.Native.Nat.{ℕ, _+_, _≤_, _<_};
+ghost use lib.Dec.{eqb};
+ghost use lib.ListN.{length, getD};
 ghost use Rattle.rules.specs.Cells.{Text};
 ghost use Rattle.rules.specs.Castilian.{castilian};
 ghost use Rattle.rules.specs.Rows.{Reads};
 ghost use Rattle.rules.specs.Refusals.{longestRow, reported};
+ghost use Rattle.rules.proofs.Machine.{at-rest};
+ghost use Rattle.pairs.specs.Opened.{openStates};
 ghost use Rattle.rows.specs.Laid.{laid};
-ghost use Rattle.signs.specs.Left.{signsIn};
+ghost use Rattle.signs.specs.Modes.{modeOf, modeCount};
 ghost use Rattle.signs.specs.Print.{points};
 ghost use Rattle.reader.specs.Promise.{Read, Shows};
-ghost use Rattle.reader.specs.Passes.{FirstHigh, RefusesRow, Finds, Room, heldAfter};
+ghost use Rattle.reader.specs.Passes.{FirstHigh, RefusesRow, mostPoints, Wrote, Goes};
 
 // The answer to a row. `Done` has the count of code points written; any other is a refusal, and the lent text is then as it was. Paper 01's number and
 // second number for each are given by `Promise.refusalOf`.
@@ -31,14 +38,14 @@ pub enum Answer {
     NeedsRoom(usize),
 }
 
-// What a walk over the row finds: the count of the text's code points, and the print of the sign that starts at a place, if one does, with the place after it
-// (`next` is otherwise that place itself); or that no text has the row.
+// What a walk over a part of the row finds: the place that it comes to, what the signs up to it leave (the mode and the open pairs), and how many code
+// points they have; or that no text has the row.
 pub enum Walked {
-    Text {
+    On {
+        at: usize,
+        mode: usize,
+        opened: usize,
         count: usize,
-        lead: u32,
-        point: u32,
-        next: usize,
     },
     Nowhere,
 }
@@ -55,9 +62,6 @@ pub enum Shown {
 const LONGEST_ROW: usize = 12288;
 
 const LONGEST_TEXT: usize = 4096;
-
-// "Cells are bytes 0 to 63"
-const LAST_CELL: u8 = 63;
 
 // "A length above 4,294,967,295 is reported as that number."
 const MOST_REPORTED: usize = 4294967295;
@@ -89,54 +93,106 @@ fn put_sign(text: &mut [u32], lead: u32, point: u32) -> usize
     2
 }
 
-// "each step gives the print of the next sign and the place after it." What is lent has no element at all, and nothing is written; or it has room for the whole text.
-fn walk(row: &[u8], place: usize, text: &mut [u32]) -> Walked
-    requires { ⌜ (length (now row) ≤ longestRow) × Room (signsIn (now row)) (length (now text)) ⌝ }
-    ensures { λ r. ⌜ Finds place (signsIn (now (row .entry))) r × (now (text .exit) ≡ heldAfter (signsIn (now (row .entry))) (now (text .entry))) ⌝ }
+// Writes a sign's code points behind those that are counted, if there is room for them, and counts them.
+fn put(text: &mut [u32], count: usize, lead: u32, point: u32) -> usize
+    requires { ⌜ count ≤ mostPoints ⌝ }
+    ensures { λ r. ⌜ (r ≡ count + length (points lead point)) × Wrote (now (text .entry)) (now (text .exit)) count (points lead point) ⌝ }
 {
-    let mut mode: usize = FREE;
-    let mut opened: usize = 0;
+    let next = count + width_of(lead);
+    if next <= text.len() {
+        put_sign(&mut text[count..], lead, point);
+    }
+    next
+}
+
+// "each step gives the print of the next sign and the place after it." From a place, where a sign starts, and what the signs before it leave, as long as the
+// next sign starts before the place `stop`. Their print is written from the first element on, if there is room.
+fn walk(
+    row: &[u8],
+    from: usize,
+    stop: usize,
+    begun: usize,
+    unclosed: usize,
+    text: &mut [u32],
+) -> Walked
+    requires { ⌜ (length (now row) ≤ longestRow) × (from ≤ length (now row)) × (stop ≤ length (now row)) × (begun < modeCount) × (unclosed < openStates) ⌝ }
+    ensures { λ r. ⌜ Goes (now (row .entry)) stop from begun unclosed (now (text .entry)) (now (text .exit)) r ⌝ }
+{
+    let mut mode: usize = begun;
+    let mut opened: usize = unclosed;
     let mut count: usize = 0;
-    let mut seen_lead: u32 = NO_POINT;
-    let mut seen_point: u32 = NO_POINT;
-    let mut seen_next: usize = place;
-    let mut at: usize = 0;
-    while at < row.len() {
-        let Step::Sign {
-            lead,
-            point,
-            next,
-            mode: mode_after,
-            opened: opened_after,
-        } = signs::sign_at(row, at, mode, opened)
-        else {
+    let mut at: usize = from;
+    while at < stop {
+        let cell = row[at];
+        if LAST_CELL < cell {
             return Walked::Nowhere;
-        };
-        if at == place {
-            seen_lead = lead;
-            seen_point = point;
-            seen_next = next;
         }
-        if count < text.len() {
-            count = count + put_sign(&mut text[count..], lead, point);
-        } else {
-            count = count + width_of(lead);
-        }
-        mode = mode_after;
-        opened = opened_after;
-        at = next;
-    }
-    if opened == 0 {
-        if signs::rests(mode) {
-            return Walked::Text {
-                count,
-                lead: seen_lead,
-                point: seen_point,
-                next: seen_next,
+        let word = signs::word_of(cell);
+        if signs::is_usual(word, mode) {
+            let Step::Sign {
+                lead,
+                point,
+                next,
+                mode: mode_after,
+                opened: opened_after,
+            } = signs::usual(word, at, opened)
+            else {
+                return Walked::Nowhere;
             };
+            count = put(text, count, lead, point);
+            mode = mode_after;
+            opened = opened_after;
+            at = next;
+        } else {
+            let Step::Sign {
+                lead,
+                point,
+                next,
+                mode: mode_after,
+                opened: opened_after,
+            } = signs::sign_at(row, at, word, mode, opened)
+            else {
+                return Walked::Nowhere;
+            };
+            count = put(text, count, lead, point);
+            mode = mode_after;
+            opened = opened_after;
+            at = next;
         }
     }
-    Walked::Nowhere
+    Walked::On {
+        at,
+        mode,
+        opened,
+        count,
+    }
+}
+
+// May a text end here: is what was begun whole, and no pair open?
+fn ends(mode: usize, opened: usize) -> bool
+    requires { ⌜ mode < modeCount ⌝ }
+    ensures { λ r. ⌜ r ≡ (at-rest (modeOf mode) && eqb opened 0) ⌝ }
+{
+    if opened == 0 {
+        return signs::rests(mode);
+    }
+    false
+}
+
+// The greatest byte of the row. (This loop has no way out but its end, so that the machine takes many bytes at once.)
+fn greatest(row: &[u8]) -> u8
+    ensures { λ r. ⌜ ((n : ℕ) → n < length (now (row .entry)) → getD (now (row .entry)) n 0 ≤ r) ⌝ }
+{
+    let mut most: u8 = 0;
+    let mut place: usize = 0;
+    while place < row.len() {
+        let byte = row[place];
+        if most < byte {
+            most = byte;
+        }
+        place += 1;
+    }
+    most
 }
 
 // The place of the first byte above 63, or the row's length.
@@ -158,6 +214,9 @@ fn unread(row: &[u8]) -> Answer
     requires { ⌜ (length (now row) ≤ longestRow) × ((t : Text) → Reads castilian (now row) t → ⊥) ⌝ }
     ensures { λ r. ⌜ RefusesRow castilian (now (row .entry)) r ⌝ }
 {
+    if greatest(row) <= LAST_CELL {
+        return Answer::NoText;
+    }
     let place = first_high(row);
     if place < row.len() {
         return Answer::NotACell(place);
@@ -173,25 +232,45 @@ pub fn read(row: &[u8], text: &mut [u32]) -> Answer
     if LONGEST_ROW < row.len() {
         return Answer::TooLong(reported_length(row.len()));
     }
-    let walked = walk(row, row.len(), &mut text[..0]);
-    match walked {
-        Walked::Nowhere => unread(row),
-        Walked::Text {
-            count,
-            lead: _,
-            point: _,
-            next: _,
-        } => {
-            if LONGEST_TEXT < count {
-                return Answer::TooLong(count);
-            }
-            if text.len() < count {
-                return Answer::NeedsRoom(count);
-            }
-            walk(row, row.len(), text);
-            Answer::Done(count)
+    let Walked::On {
+        at: _,
+        mode,
+        opened,
+        count,
+    } = walk(row, 0, row.len(), FREE, 0, &mut text[..0])
+    else {
+        return unread(row);
+    };
+    if !ends(mode, opened) {
+        return unread(row);
+    }
+    if LONGEST_TEXT < count {
+        return Answer::TooLong(count);
+    }
+    if text.len() < count {
+        return Answer::NeedsRoom(count);
+    }
+    walk(row, 0, row.len(), FREE, 0, text);
+    Answer::Done(count)
+}
+
+// Up to where a step walks before the sign at its place.
+fn stop_before(place: usize, end: usize) -> usize
+    ensures { λ r. ⌜ ((place < end) × (r ≡ place)) ⊎ ((end ≤ place) × (r ≡ end)) ⌝ }
+{
+    if place < end { place } else { end }
+}
+
+// Up to where it walks for that sign, from where it came to: one place on, if that is the place and the row goes on there.
+fn stop_behind(at: usize, place: usize, end: usize) -> usize
+    ensures { λ r. ⌜ ((at ≡ place) × (at < end) × (r ≡ at + 1)) ⊎ (((at ≡ place) → end ≤ at) × (r ≡ at)) ⌝ }
+{
+    if at == place {
+        if at < end {
+            return at + 1;
         }
     }
+    at
 }
 
 // The proofing screen's step: "What a step gives follows from the row and the place alone." The row is walked once.
@@ -203,22 +282,75 @@ pub fn step(row: &[u8], place: usize) -> Shown
         return Shown::Refused(Answer::TooLong(reported_length(row.len())));
     }
     let mut no_room = [NO_POINT; 1];
-    let walked = walk(row, place, &mut no_room[..0]);
-    match walked {
-        Walked::Nowhere => Shown::Refused(unread(row)),
-        Walked::Text {
-            count,
-            lead,
-            point,
+    let Walked::On {
+        at,
+        mode,
+        opened,
+        count: count_before,
+    } = walk(
+        row,
+        0,
+        stop_before(place, row.len()),
+        FREE,
+        0,
+        &mut no_room[..0],
+    )
+    else {
+        return Shown::Refused(unread(row));
+    };
+    let mut print = [NO_POINT; 2];
+    let Walked::On {
+        at: next,
+        mode: mode_after,
+        opened: opened_after,
+        count: width,
+    } = walk(
+        row,
+        at,
+        stop_behind(at, place, row.len()),
+        mode,
+        opened,
+        &mut print,
+    )
+    else {
+        return Shown::Refused(unread(row));
+    };
+    let Walked::On {
+        at: _,
+        mode: mode_last,
+        opened: opened_last,
+        count: count_after,
+    } = walk(
+        row,
+        next,
+        row.len(),
+        mode_after,
+        opened_after,
+        &mut no_room[..0],
+    )
+    else {
+        return Shown::Refused(unread(row));
+    };
+    if !ends(mode_last, opened_last) {
+        return Shown::Refused(unread(row));
+    }
+    let count = count_before + width + count_after;
+    if LONGEST_TEXT < count {
+        return Shown::Refused(Answer::TooLong(count));
+    }
+    if next == at {
+        return Shown::Still;
+    }
+    if width == 1 {
+        return Shown::Sign {
+            lead: NO_POINT,
+            point: print[0],
             next,
-        } => {
-            if LONGEST_TEXT < count {
-                return Shown::Refused(Answer::TooLong(count));
-            }
-            if next == place {
-                return Shown::Still;
-            }
-            Shown::Sign { lead, point, next }
-        }
+        };
+    }
+    Shown::Sign {
+        lead: print[0],
+        point: print[1],
+        next,
     }
 }

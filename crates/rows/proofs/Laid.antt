@@ -59,6 +59,14 @@ laid-step l n a b h =
 pub laid-none : (l : List ℕ) (n : ℕ) → take n l ++ laid [] (drop n l) ≡ l
 laid-none l n = take-append-drop n l
 
+-- what a writer that was lent `&mut out[n..]` left in the part is laid behind n elements of the whole
+pub laid-part : (l : List ℕ) (n : ℕ) (a ys : List ℕ) → n + length a ≤ length l → ys ≡ laid a (take (length l - n) (drop n l))
+    → putMid n (length l - n) l ys ≡ take n l ++ laid a (drop n l)
+laid-part l n a ys room wrote =
+    let part-is : take (length l - n) (drop n l) ≡ drop n l = take-all (length l - n) (drop n l) (rw length-drop (omega arith)) in
+    let none-left : drop (length l - n) (drop n l) ≡ [] = drop-of-length-le (drop n l) {i = length l - n} (rw length-drop (omega arith)) in
+    rw (wrote, part-is, none-left, append-nil)
+
 -- What a loop that lends `&mut out[n..]` to the writer of one sign has at the end of a turn. l is the lent row at the turn's start,
 -- ys what the writer left in the part, a the sign's cells and b those still to come.
 module _ (l : List ℕ) (n : ℕ) (a b ys : List ℕ) (r : ℕ) (room : n + length (a ++ b) ≤ length l)
@@ -66,14 +74,8 @@ module _ (l : List ℕ) (n : ℕ) (a b ys : List ℕ) (r : ℕ) (room : n + leng
   fits : n + length a + length b ≤ length l
   fits = omega (arith, length-append a b)
 
-  part-is : take (length l - n) (drop n l) ≡ drop n l
-  part-is = take-all (length l - n) (drop n l) (rw length-drop (omega arith))
-
-  none-left : drop (length l - n) (drop n l) ≡ []
-  none-left = drop-of-length-le (drop n l) {i = length l - n} (rw length-drop (omega arith))
-
   back : putMid n (length l - n) l ys ≡ take n l ++ laid a (drop n l)
-  back = rw (wrote, part-is, none-left, append-nil)
+  back = laid-part l n a ys (omega (arith, fits)) wrote
 
   pub turn-length : length (putMid n (length l - n) l ys) ≡ length l
   turn-length = rw back (simp (length-append, length-take-le n l (omega (arith, fits)), length-drop) (omega (arith, fits)))

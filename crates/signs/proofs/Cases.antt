@@ -24,7 +24,7 @@ use Rattle.signs.specs.Acts as act
 use Rattle.signs.specs.Deeds.{deeds}
 use Rattle.signs.specs.Fields.{deedOf, classIn, pointIn, capitalIn, figureIn, lowerIn, letterIn, kindIn, thenIn, usualIn, noCell, cellOf}
 use Rattle.signs.specs.Words.{words, wordOf, twoOf}
-use Rattle.signs.specs.Readings.{noPoint, Reading, reads, aMark, one, onceList, digitCell, capitalModes, capitalLetter, capitalBy, numberBy, percentBy, innerQuotes, longerBy, prefixBy, askList, askedBy, readingOf, byWord, openerOf, closerOf, markStep, stepOf, stepAt}
+use Rattle.signs.specs.Readings.{noPoint, Reading, reads, aMark, one, usualBy, onceList, digitCell, capitalModes, capitalLetter, capitalBy, numberBy, percentBy, innerQuotes, longerBy, prefixBy, askList, askedBy, readingOf, byWord, openerOf, closerOf, markStep, stepOf, stepAt}
 use Rattle.signs.specs.Readings as reading
 use Rattle.signs.specs.declared.Step.{Step}
 use Rattle.signs.specs.declared.Step.the-variants as variant
@@ -290,9 +290,9 @@ module _ (row : Row) (at m o w : ℕ) (e : w ≡ wordOf (cellOf row at)) where
   unfolding stepAt readingOf
   by-word = ap (λ (v : ℕ). stepOf at o (byWord m v (cellOf row at) (cellOf row (at + 1)) (cellOf row (at + 2)))) e
 
-  pub as-usual : usualIn w m ≡ true → (p t : ℕ) → p ≡ pointIn w → t ≡ thenIn w → variant.Sign noPoint p (at + 1) t o ≡ stepAt row at m o
+  pub as-usual : usualIn w m ≡ true → stepOf at o (usualBy w) ≡ stepAt row at m o
   unfolding byWord
-  as-usual u p t a b = sym (rw (u, ← a, ← b)) ∙ by-word
+  as-usual u = sym (rw u) ∙ by-word
 
   module _ (u : usualIn w m ≡ false) (d : ℕ) (told : d ≡ deedOf m (classIn w)) where
     by-deed : (v : Reading) → choose (onceList w) d (askedBy d w (cellOf row at) (cellOf row (at + 1)) (cellOf row (at + 2))) ≡ v → stepOf at o v ≡ stepAt row at m o
@@ -323,27 +323,49 @@ module _ (row : Row) (at m o w : ℕ) (e : w ≡ wordOf (cellOf row at)) where
     pub told-masculine : d ≡ act.masculineMark → variant.Sign (code ".") (code "º") (at + 1) mode.free o ≡ stepAt row at m o
     told-masculine q = by-deed (reads (code ".") (code "º") 1 mode.free) (rw q)
 
-    pub told-mark : d ≡ act.mark → (k : ℕ) → k ≡ kindIn w → markStep (at + 1) o k ≡ stepAt row at m o
-    told-mark q k h = ap (markStep (at + 1) o) h ∙ by-deed (aMark (kindIn w) 1) (rw q)
-
     pub told-question : Rest Unit (keysOf (onceList w)) d → (s : Step)
         → s ≡ stepOf at o (askedBy d w (cellOf row at) (cellOf row (at + 1)) (cellOf row (at + 2))) → s ≡ stepAt row at m o
     told-question r s h =
         h ∙ by-deed (askedBy d w (cellOf row at) (cellOf row (at + 1)) (cellOf row (at + 2)))
         (chosen-rest (onceList w) d (askedBy d w (cellOf row at) (cellOf row (at + 1)) (cellOf row (at + 2))) r)
 
--- where the table says that a cell is a mark, its kind is one that is counted
-marks-right : T (below (λ x. below (λ m. not (eqb (deedOf m (classIn (wordOf x))) act.mark) || ltb (kindIn (wordOf x)) kinds) modeCount) sights)
-unfolding deeds words
+-- what `usual` returns
+module _ (w at o : ℕ) where
+  pub usual-mark : pointIn w ≡ noPoint → (k : ℕ) → k ≡ kindIn w → markStep (at + 1) o k ≡ stepOf at o (usualBy w)
+  usual-mark e k h = ap (markStep (at + 1) o) h ∙ sym (rw (eq-eqb (pointIn w) noPoint e))
+
+  pub usual-sign : (p t : ℕ) → p ≡ pointIn w → t ≡ thenIn w → (p ≡ noPoint → ⊥) → variant.Sign noPoint p (at + 1) t o ≡ stepOf at o (usualBy w)
+  usual-sign p t e f n = rw (ne-eqb (pointIn w) noPoint (λ q. n (e ∙ q)), e, f)
+
+-- where a cell that has no code point of its own is read as usual, it is a mark of a kind that is counted
+marks-right : T (below (λ x. below (λ m. not (usualIn (wordOf x) m && eqb (pointIn (wordOf x)) noPoint) || ltb (kindIn (wordOf x)) kinds) modeCount) sights)
+unfolding words
 marks-right = tt
 
-pub kind-known : (row : Row) (at m w d k : ℕ) → m < modeCount → w ≡ wordOf (cellOf row at) → d ≡ deedOf m (classIn w) → d ≡ act.mark → k ≡ kindIn w → k < kinds
-kind-known row at m w d k l e told q h =
+pub kind-known : (row : Row) (at m w : ℕ) → m < modeCount → w ≡ wordOf (cellOf row at) → usualIn w m ≡ true → pointIn w ≡ noPoint → kindIn w < kinds
+kind-known row at m w l e u q =
     let x : ℕ = cellOf row at in
-    let t = at-below (λ m. not (eqb (deedOf m (classIn (wordOf x))) act.mark) || ltb (kindIn (wordOf x)) kinds) modeCount
-    (at-below (λ x. below (λ m. not (eqb (deedOf m (classIn (wordOf x))) act.mark) || ltb (kindIn (wordOf x)) kinds) modeCount) sights marks-right x (sight-small (getD row at noCell))) m l in
-    let f : deedOf m (classIn (wordOf x)) ≡ act.mark = ap (λ (v : ℕ). deedOf m (classIn v)) (sym e) ∙ sym told ∙ q in
+    let t = at-below (λ m. not (usualIn (wordOf x) m && eqb (pointIn (wordOf x)) noPoint) || ltb (kindIn (wordOf x)) kinds) modeCount
+    (at-below (λ x. below (λ m. not (usualIn (wordOf x) m && eqb (pointIn (wordOf x)) noPoint) || ltb (kindIn (wordOf x)) kinds) modeCount) sights marks-right x (sight-small (getD row at noCell))) m l in
+    let f : (usualIn (wordOf x) m && eqb (pointIn (wordOf x)) noPoint) ≡ true =
+    ap (λ (v : ℕ). usualIn v m && eqb (pointIn v) noPoint) (sym e) ∙ ap (λ (b : Bool). b && eqb (pointIn w) noPoint) u ∙ eq-eqb (pointIn w) noPoint q in
     let g : kindIn (wordOf x) < kinds =
     ltb→lt (kindIn (wordOf x)) kinds
-    (implies (eqb (deedOf m (classIn (wordOf x))) act.mark) (ltb (kindIn (wordOf x)) kinds) (T-of-eqb (deedOf m (classIn (wordOf x))) f) t) in
-    omega (arith, g, h, ap kindIn e)
+    (implies (usualIn (wordOf x) m && eqb (pointIn (wordOf x)) noPoint) (ltb (kindIn (wordOf x)) kinds) (subst T (sym f) tt) t) in
+    omega (arith, g, ap kindIn e)
+
+-- a byte that is no cell begins no sign
+none-high : T (below (λ m. not (usualIn 0 m) && eqb (deedOf m (classIn 0)) act.noSign) modeCount)
+unfolding deeds
+none-high = tt
+
+pub no-cell : (row : Row) (at m o : ℕ) → m < modeCount → at < length row → lastCell < getD row at 0 → stepAt row at m o ≡ variant.Nothing
+unfolding words
+no-cell row at m o l h k = go (usualIn 0 m) refl (deedOf m (classIn 0)) refl (at-below (λ m. not (usualIn 0 m) && eqb (deedOf m (classIn 0)) act.noSign) modeCount none-high m l)
+  where
+    word-is : 0 ≡ wordOf (cellOf row at)
+    word-is = ap wordOf (cell-high row at h k)
+
+    go : (u : Bool) → usualIn 0 m ≡ u → (d : ℕ) → deedOf m (classIn 0) ≡ d → T (not u && eqb d act.noSign) → stepAt row at m o ≡ variant.Nothing
+    go true e d f t = absurd t
+    go false e d f t = sym (told-none row at m o 0 word-is e d (sym f) (eqb→eq d act.noSign t))

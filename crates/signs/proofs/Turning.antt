@@ -28,9 +28,9 @@ use Rattle.pairs.specs.Opened.{openStates, opensOf}
 use Rattle.pairs.proofs.Pairing.{open-is, opening, closing, turned-few, closed-is}
 use Rattle.signs.specs.Modes.{modeOf, modeCount}
 use Rattle.signs.specs.Acts as act
-use Rattle.signs.specs.Fields.{deedOf, classIn, pointIn, thenIn, usualIn, noCell, cellFrom, cellOf}
+use Rattle.signs.specs.Fields.{deedOf, classIn, usualIn, noCell, cellFrom, cellOf}
 use Rattle.signs.specs.Words.{wordOf}
-use Rattle.signs.specs.Readings.{Reading, one, onceList, askList, readingOf, byWord, askedBy, capitalBy, prefixBy, longerBy, stepOf, stepAt}
+use Rattle.signs.specs.Readings.{Reading, usualBy, onceList, askList, readingOf, byWord, askedBy, capitalBy, prefixBy, longerBy, stepOf, stepAt}
 use Rattle.signs.specs.Left.{left, signsBy, addSign}
 use Rattle.signs.specs.Print.{points}
 use Rattle.signs.specs.declared.Step.{Step}
@@ -71,8 +71,8 @@ once-same m x y z v w e = go (usualIn (wordOf x) m) e
     d = deedOf m (classIn (wordOf x))
 
     go : (u : Bool) → not (u || among (keysOf (onceList (wordOf x))) (deedOf m (classIn (wordOf x)))) ≡ false
-        → cond u (one (pointIn (wordOf x)) 1 (thenIn (wordOf x))) (choose (onceList (wordOf x)) (deedOf m (classIn (wordOf x))) (askedBy (deedOf m (classIn (wordOf x))) (wordOf x) x y z))
-        ≡ cond u (one (pointIn (wordOf x)) 1 (thenIn (wordOf x))) (choose (onceList (wordOf x)) (deedOf m (classIn (wordOf x))) (askedBy (deedOf m (classIn (wordOf x))) (wordOf x) x v w))
+        → cond u (usualBy (wordOf x)) (choose (onceList (wordOf x)) (deedOf m (classIn (wordOf x))) (askedBy (deedOf m (classIn (wordOf x))) (wordOf x) x y z))
+        ≡ cond u (usualBy (wordOf x)) (choose (onceList (wordOf x)) (deedOf m (classIn (wordOf x))) (askedBy (deedOf m (classIn (wordOf x))) (wordOf x) x v w))
     go true e = refl
     go false e = chosen-key (onceList (wordOf x)) (deedOf m (classIn (wordOf x))) _ _ (not-not (among (keysOf (onceList (wordOf x))) (deedOf m (classIn (wordOf x)))) e)
       where

@@ -26,45 +26,42 @@ denominator = 6
 abbrev pub masculineMark : ℕ
 masculineMark = 7
 
-abbrev pub mark : ℕ
-mark = 8
-
 -- the least question
 abbrev pub questions : ℕ
-questions = 9
+questions = 8
 
 abbrev pub point : ℕ
-point = 9
+point = 8
 
 abbrev pub oneOrFeminine : ℕ
-oneOrFeminine = 10
+oneOrFeminine = 9
 
 abbrev pub hyphenOrDash : ℕ
-hyphenOrDash = 11
+hyphenOrDash = 10
 
 abbrev pub dashOnly : ℕ
-dashOnly = 12
+dashOnly = 11
 
 abbrev pub numberSign : ℕ
-numberSign = 13
+numberSign = 12
 
 abbrev pub separates : ℕ
-separates = 14
+separates = 13
 
 abbrev pub prefixed : ℕ
-prefixed = 15
+prefixed = 14
 
 abbrev pub beginsRun : ℕ
-beginsRun = 16
+beginsRun = 15
 
 abbrev pub runGoesOn : ℕ
-runGoesOn = 17
+runGoesOn = 16
 
 abbrev pub secondCapital : ℕ
-secondCapital = 18
+secondCapital = 17
 
 abbrev pub owedCapital : ℕ
-owedCapital = 19
+owedCapital = 18
 
 abbrev pub greaterOnly : ℕ
-greaterOnly = 20
+greaterOnly = 19

@@ -62,31 +62,34 @@ abbrev pub deedOf : ℕ → ℕ → ℕ
 deedOf m c = getD deeds (m % 16 * 16 + c % 16) noSign
 
 -- WHERE THE FIELDS STAND
+abbrev pub usualAt : ℕ
+usualAt = 1
+
 abbrev pub pointAt : ℕ
-pointAt = 16
+pointAt = 65536
 
 abbrev pub capitalAt : ℕ
-capitalAt = 1048576
+capitalAt = 4294967296
 
 abbrev pub figureAt : ℕ
-figureAt = 268435456
+figureAt = 1099511627776
 
 abbrev pub lowerAt : ℕ
-lowerAt = 17179869184
+lowerAt = 70368744177664
 
 abbrev pub kindAt : ℕ
-kindAt = 1099511627776
+kindAt = 4503599627370496
+
+abbrev pub classAt : ℕ
+classAt = 72057594037927936
 
 abbrev pub thenAt : ℕ
-thenAt = 17592186044416
-
-abbrev pub usualAt : ℕ
-usualAt = 281474976710656
+thenAt = 1152921504606846976
 
 -- WHAT A WORD SAYS: its class; the small letter or the sign that the cell is alone; its capital, its digit and its digit as a lower digit (0 for none); the
 -- kind of a pair mark; the mode after it where it is read as usual; is it read as usual in a mode
 abbrev pub classIn : ℕ → ℕ
-classIn w = w % 16
+classIn w = w / classAt % 16
 
 abbrev pub pointIn : ℕ → ℕ
 pointIn w = w / pointAt % 65536
@@ -108,10 +111,10 @@ abbrev pub kindIn : ℕ → ℕ
 kindIn w = w / kindAt % 16
 
 abbrev pub thenIn : ℕ → ℕ
-thenIn w = w / thenAt % 16
+thenIn w = w / thenAt
 
 abbrev pub usualIn : ℕ → ℕ → Bool
-usualIn w m = eqb (w / usualAt / 2 ^ (m % 16) % 2) 1
+usualIn w m = eqb (w / 2 ^ (m % 64) % 2) 1
 
 -- THE CELL at a place of a row, and `noCell` past its end or where the byte is no cell
 abbrev pub noCell : ℕ

@@ -32,7 +32,11 @@ pub data Reading : Type 0 where
 abbrev pub one : ℕ → ℕ → ℕ → Reading
 one point cells mode = reads noPoint point cells mode
 
--- FROM THE CELL ALONE, by its word
+-- AS USUAL, by the cell's word: its small letter or its sign, or else its pair mark
+abbrev pub usualBy : ℕ → Reading
+usualBy w = cond (eqb (pointIn w) noPoint) (aMark (kindIn w) 1) (one (pointIn w) 1 (thenIn w))
+
+-- FROM THE CELL ALONE, otherwise
 abbrev pub onceList : ℕ → List (ℕ × Reading)
 onceList w =
     (act.noSign, nothing)
@@ -42,7 +46,6 @@ onceList w =
     ∷ (act.lowerDigit, one (lowerIn w) 1 mode.low)
     ∷ (act.denominator, reads (code "⁄") (figureIn w) 1 mode.under)
     ∷ (act.masculineMark, reads (code ".") (code "º") 1 mode.free)
-    ∷ (act.mark, aMark (kindIn w) 1)
     ∷ []
 
 -- FROM THE CELLS THAT FOLLOW: y is the second cell and z the third
@@ -105,7 +108,7 @@ askedBy d w x y z = choose (askList w y) d (cond (ltb d act.beginsRun) (prefixBy
 unfoldable pub byWord : ℕ → ℕ → ℕ → ℕ → ℕ → Reading
 unfolding askedBy
 byWord m w x y z =
-    cond (usualIn w m) (one (pointIn w) 1 (thenIn w))
+    cond (usualIn w m) (usualBy w)
     (choose (onceList w) (deedOf m (classIn w)) (askedBy (deedOf m (classIn w)) w x y z))
 
 unfoldable pub readingOf : ℕ → ℕ → ℕ → ℕ → Reading

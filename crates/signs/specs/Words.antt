@@ -7,47 +7,52 @@ use lib.ListN.{getD}
 use Rattle.rules.specs.Cells.{dots}
 use Rattle.entries.specs.Chosen.{choose}
 use Rattle.signs.specs.Modes.{free, lone, owing, mixed, whole2, num, under, end, hyphen, dash, fem, percent}
-use Rattle.signs.specs.Fields.{bToJ, capitalSign, comma, figureSign, letterA, letterO, line, lowOnly, markOrLow, nothing, otherLetter, prefix, separator, sign, signOrLow, stop, pointAt, capitalAt, figureAt, lowerAt, kindAt, thenAt, usualAt}
+use Rattle.signs.specs.Fields.{bToJ, capitalSign, comma, figureSign, letterA, letterO, line, lowOnly, markOrLow, nothing, otherLetter, prefix, separator, sign, signOrLow, stop, usualAt, pointAt, capitalAt, figureAt, lowerAt, kindAt, classAt, thenAt}
 
 -- WHAT A CLASS IS: its number, the mode after it where it is read as usual, and the modes in which it is
 abbrev asLetterA : ℕ
 asLetterA =
-    letterA + thenAt * mixed
+    classAt * letterA + thenAt * mixed
     + usualAt * (2 ^ free + 2 ^ lone + 2 ^ owing + 2 ^ mixed + 2 ^ hyphen + 2 ^ dash + 2 ^ percent)
 
 abbrev asBToJ : ℕ
 asBToJ =
-    bToJ + thenAt * mixed
+    classAt * bToJ + thenAt * mixed
     + usualAt * (2 ^ free + 2 ^ lone + 2 ^ owing + 2 ^ mixed + 2 ^ hyphen + 2 ^ dash + 2 ^ percent)
 
 abbrev asLetterO : ℕ
 asLetterO =
-    letterO + thenAt * mixed
+    classAt * letterO + thenAt * mixed
     + usualAt * (2 ^ free + 2 ^ lone + 2 ^ owing + 2 ^ mixed + 2 ^ num + 2 ^ under + 2 ^ end + 2 ^ hyphen + 2 ^ dash + 2 ^ fem + 2 ^ percent)
 
 abbrev asOtherLetter : ℕ
 asOtherLetter =
-    otherLetter + thenAt * mixed
+    classAt * otherLetter + thenAt * mixed
     + usualAt * (2 ^ free + 2 ^ lone + 2 ^ owing + 2 ^ mixed + 2 ^ num + 2 ^ under + 2 ^ end + 2 ^ hyphen + 2 ^ dash + 2 ^ fem + 2 ^ percent)
 
 abbrev asStop : ℕ
 asStop =
-    stop + thenAt * free
+    classAt * stop + thenAt * free
     + usualAt * (2 ^ free + 2 ^ lone + 2 ^ mixed + 2 ^ whole2 + 2 ^ under + 2 ^ end + 2 ^ hyphen + 2 ^ dash + 2 ^ fem + 2 ^ percent)
 
 abbrev asComma : ℕ
 asComma =
-    comma + thenAt * free
+    classAt * comma + thenAt * free
     + usualAt * (2 ^ free + 2 ^ lone + 2 ^ mixed + 2 ^ whole2 + 2 ^ under + 2 ^ end + 2 ^ hyphen + 2 ^ dash + 2 ^ fem + 2 ^ percent)
 
 abbrev asSignOrLow : ℕ
 asSignOrLow =
-    signOrLow + thenAt * free
+    classAt * signOrLow + thenAt * free
+    + usualAt * (2 ^ free + 2 ^ lone + 2 ^ mixed + 2 ^ whole2 + 2 ^ num + 2 ^ under + 2 ^ end + 2 ^ hyphen + 2 ^ dash + 2 ^ fem + 2 ^ percent)
+
+abbrev asMarkOrLow : ℕ
+asMarkOrLow =
+    classAt * markOrLow + thenAt * free
     + usualAt * (2 ^ free + 2 ^ lone + 2 ^ mixed + 2 ^ whole2 + 2 ^ num + 2 ^ under + 2 ^ end + 2 ^ hyphen + 2 ^ dash + 2 ^ fem + 2 ^ percent)
 
 abbrev asSign : ℕ
 asSign =
-    sign + thenAt * free
+    classAt * sign + thenAt * free
     + usualAt * (2 ^ free + 2 ^ lone + 2 ^ mixed + 2 ^ whole2 + 2 ^ num + 2 ^ under + 2 ^ end + 2 ^ hyphen + 2 ^ dash + 2 ^ fem + 2 ^ percent)
 
 -- THE WORDS, in the order of the cells
@@ -86,7 +91,7 @@ words =
     -- 1234: P p
     ∷ (asOtherLetter + pointAt * 0x70 + capitalAt * 0x50)
     -- 5
-    ∷ separator
+    ∷ (classAt * separator)
     -- 15: 5 E e
     ∷ (asBToJ + pointAt * 0x65 + capitalAt * 0x45 + figureAt * 0x35)
     -- 25: 3 :
@@ -94,15 +99,15 @@ words =
     -- 125: 8 H h
     ∷ (asBToJ + pointAt * 0x68 + capitalAt * 0x48 + figureAt * 0x38)
     -- 35: 9 emphasis opens emphasis closes
-    ∷ (markOrLow + lowerAt * 0x39 + kindAt * 4)
+    ∷ (asMarkOrLow + lowerAt * 0x39 + kindAt * 4)
     -- 135: O o º
     ∷ (asLetterO + pointAt * 0x6f + capitalAt * 0x4f)
     -- 235: ! 6 ¡
-    ∷ (markOrLow + lowerAt * 0x36 + kindAt * 1)
+    ∷ (asMarkOrLow + lowerAt * 0x36 + kindAt * 1)
     -- 1235: R r
     ∷ (asOtherLetter + pointAt * 0x72 + capitalAt * 0x52)
     -- 45
-    ∷ prefix
+    ∷ (classAt * prefix)
     -- 145: 4 D d
     ∷ (asBToJ + pointAt * 0x64 + capitalAt * 0x44 + figureAt * 0x34)
     -- 245: 0 J j
@@ -118,23 +123,23 @@ words =
     -- 12345: Q q
     ∷ (asOtherLetter + pointAt * 0x71 + capitalAt * 0x51)
     -- 6
-    ∷ prefix
+    ∷ (classAt * prefix)
     -- 16
     ∷ nothing
     -- 26: 5 ? ¿
-    ∷ (markOrLow + lowerAt * 0x35 + kindAt * 0)
+    ∷ (asMarkOrLow + lowerAt * 0x35 + kindAt * 0)
     -- 126: (
     ∷ (asSign + pointAt * 0x28)
     -- 36: -
-    ∷ (line + pointAt * 0x2d)
+    ∷ (classAt * line + pointAt * 0x2d)
     -- 136: U u
     ∷ (asOtherLetter + pointAt * 0x75 + capitalAt * 0x55)
     -- 236: 8 « »
-    ∷ (markOrLow + lowerAt * 0x38 + kindAt * 2)
+    ∷ (asMarkOrLow + lowerAt * 0x38 + kindAt * 2)
     -- 1236: V v
     ∷ (asOtherLetter + pointAt * 0x76 + capitalAt * 0x56)
     -- 46
-    ∷ capitalSign
+    ∷ (classAt * capitalSign)
     -- 146
     ∷ nothing
     -- 246
@@ -154,11 +159,11 @@ words =
     -- 156
     ∷ nothing
     -- 256: 4
-    ∷ (lowOnly + lowerAt * 0x34)
+    ∷ (classAt * lowOnly + lowerAt * 0x34)
     -- 1256: Ü ü
     ∷ (asOtherLetter + pointAt * 0xfc + capitalAt * 0xdc)
     -- 356: 0
-    ∷ (lowOnly + lowerAt * 0x30)
+    ∷ (classAt * lowOnly + lowerAt * 0x30)
     -- 1356: Z z
     ∷ (asOtherLetter + pointAt * 0x7a + capitalAt * 0x5a)
     -- 2356: 7 =
@@ -166,7 +171,7 @@ words =
     -- 12356: Á á
     ∷ (asOtherLetter + pointAt * 0xe1 + capitalAt * 0xc1)
     -- 456
-    ∷ prefix
+    ∷ (classAt * prefix)
     -- 1456
     ∷ nothing
     -- 2456: W w
@@ -174,7 +179,7 @@ words =
     -- 12456: Ñ ñ
     ∷ (asOtherLetter + pointAt * 0xf1 + capitalAt * 0xd1)
     -- 3456
-    ∷ figureSign
+    ∷ (classAt * figureSign)
     -- 13456: Y y
     ∷ (asOtherLetter + pointAt * 0x79 + capitalAt * 0x59)
     -- 23456: Ú ú

@@ -4,6 +4,7 @@
 use crate::B_TO_J;
 use crate::CAPITAL_AT;
 use crate::CAPITAL_SIGN;
+use crate::CLASS_AT;
 use crate::COMMA;
 use crate::DASH;
 use crate::END;
@@ -196,7 +197,7 @@ const IN_FEM: u64 = USUAL_AT << FEM;
 const IN_PERCENT: u64 = USUAL_AT << PERCENT;
 
 // What a class is: its number, the modes in which it is read as usual, and the mode after it then.
-const AS_LETTER_A: u64 = LETTER_A
+const AS_LETTER_A: u64 = CLASS_AT * LETTER_A
     + THEN_AT * MIXED as u64
     + IN_FREE
     + IN_LONE
@@ -206,7 +207,7 @@ const AS_LETTER_A: u64 = LETTER_A
     + IN_DASH
     + IN_PERCENT;
 
-const AS_B_TO_J: u64 = B_TO_J
+const AS_B_TO_J: u64 = CLASS_AT * B_TO_J
     + THEN_AT * MIXED as u64
     + IN_FREE
     + IN_LONE
@@ -216,21 +217,7 @@ const AS_B_TO_J: u64 = B_TO_J
     + IN_DASH
     + IN_PERCENT;
 
-const AS_LETTER_O: u64 = LETTER_O
-    + THEN_AT * MIXED as u64
-    + IN_FREE
-    + IN_LONE
-    + IN_OWING
-    + IN_MIXED
-    + IN_NUM
-    + IN_UNDER
-    + IN_END
-    + IN_HYPHEN
-    + IN_DASH
-    + IN_FEM
-    + IN_PERCENT;
-
-const AS_OTHER_LETTER: u64 = OTHER_LETTER
+const AS_LETTER_O: u64 = CLASS_AT * LETTER_O
     + THEN_AT * MIXED as u64
     + IN_FREE
     + IN_LONE
@@ -244,7 +231,21 @@ const AS_OTHER_LETTER: u64 = OTHER_LETTER
     + IN_FEM
     + IN_PERCENT;
 
-const AS_STOP: u64 = STOP
+const AS_OTHER_LETTER: u64 = CLASS_AT * OTHER_LETTER
+    + THEN_AT * MIXED as u64
+    + IN_FREE
+    + IN_LONE
+    + IN_OWING
+    + IN_MIXED
+    + IN_NUM
+    + IN_UNDER
+    + IN_END
+    + IN_HYPHEN
+    + IN_DASH
+    + IN_FEM
+    + IN_PERCENT;
+
+const AS_STOP: u64 = CLASS_AT * STOP
     + THEN_AT * FREE as u64
     + IN_FREE
     + IN_LONE
@@ -257,7 +258,7 @@ const AS_STOP: u64 = STOP
     + IN_FEM
     + IN_PERCENT;
 
-const AS_COMMA: u64 = COMMA
+const AS_COMMA: u64 = CLASS_AT * COMMA
     + THEN_AT * FREE as u64
     + IN_FREE
     + IN_LONE
@@ -270,7 +271,7 @@ const AS_COMMA: u64 = COMMA
     + IN_FEM
     + IN_PERCENT;
 
-const AS_SIGN_OR_LOW: u64 = SIGN_OR_LOW
+const AS_SIGN_OR_LOW: u64 = CLASS_AT * SIGN_OR_LOW
     + THEN_AT * FREE as u64
     + IN_FREE
     + IN_LONE
@@ -284,7 +285,21 @@ const AS_SIGN_OR_LOW: u64 = SIGN_OR_LOW
     + IN_FEM
     + IN_PERCENT;
 
-const AS_SIGN: u64 = SIGN
+const AS_MARK_OR_LOW: u64 = CLASS_AT * MARK_OR_LOW
+    + THEN_AT * FREE as u64
+    + IN_FREE
+    + IN_LONE
+    + IN_MIXED
+    + IN_WHOLE2
+    + IN_NUM
+    + IN_UNDER
+    + IN_END
+    + IN_HYPHEN
+    + IN_DASH
+    + IN_FEM
+    + IN_PERCENT;
+
+const AS_SIGN: u64 = CLASS_AT * SIGN
     + THEN_AT * FREE as u64
     + IN_FREE
     + IN_LONE
@@ -329,7 +344,7 @@ const W234: u64 = AS_OTHER_LETTER + POINT_AT * 0x73 + CAPITAL_AT * 0x53; // S s
 
 const W1234: u64 = AS_OTHER_LETTER + POINT_AT * 0x70 + CAPITAL_AT * 0x50; // P p
 
-const W5: u64 = SEPARATOR;
+const W5: u64 = CLASS_AT * SEPARATOR;
 
 const W15: u64 = AS_B_TO_J + POINT_AT * 0x65 + CAPITAL_AT * 0x45 + FIGURE_AT * 0x35; // 5 E e
 
@@ -337,15 +352,15 @@ const W25: u64 = AS_SIGN_OR_LOW + POINT_AT * 0x3a + LOWER_AT * 0x33; // 3 :
 
 const W125: u64 = AS_B_TO_J + POINT_AT * 0x68 + CAPITAL_AT * 0x48 + FIGURE_AT * 0x38; // 8 H h
 
-const W35: u64 = MARK_OR_LOW + LOWER_AT * 0x39 + KIND_AT * 4; // 9 emphasis opens emphasis closes
+const W35: u64 = AS_MARK_OR_LOW + LOWER_AT * 0x39 + KIND_AT * 4; // 9 emphasis opens emphasis closes
 
 const W135: u64 = AS_LETTER_O + POINT_AT * 0x6f + CAPITAL_AT * 0x4f; // O o º
 
-const W235: u64 = MARK_OR_LOW + LOWER_AT * 0x36 + KIND_AT * 1; // ! 6 ¡
+const W235: u64 = AS_MARK_OR_LOW + LOWER_AT * 0x36 + KIND_AT * 1; // ! 6 ¡
 
 const W1235: u64 = AS_OTHER_LETTER + POINT_AT * 0x72 + CAPITAL_AT * 0x52; // R r
 
-const W45: u64 = PREFIX;
+const W45: u64 = CLASS_AT * PREFIX;
 
 const W145: u64 = AS_B_TO_J + POINT_AT * 0x64 + CAPITAL_AT * 0x44 + FIGURE_AT * 0x34; // 4 D d
 
@@ -361,21 +376,21 @@ const W2345: u64 = AS_OTHER_LETTER + POINT_AT * 0x74 + CAPITAL_AT * 0x54; // T t
 
 const W12345: u64 = AS_OTHER_LETTER + POINT_AT * 0x71 + CAPITAL_AT * 0x51; // Q q
 
-const W6: u64 = PREFIX;
+const W6: u64 = CLASS_AT * PREFIX;
 
-const W26: u64 = MARK_OR_LOW + LOWER_AT * 0x35 + KIND_AT * 0; // 5 ? ¿
+const W26: u64 = AS_MARK_OR_LOW + LOWER_AT * 0x35 + KIND_AT * 0; // 5 ? ¿
 
 const W126: u64 = AS_SIGN + POINT_AT * 0x28; // (
 
-const W36: u64 = LINE + POINT_AT * 0x2d; // -
+const W36: u64 = CLASS_AT * LINE + POINT_AT * 0x2d; // -
 
 const W136: u64 = AS_OTHER_LETTER + POINT_AT * 0x75 + CAPITAL_AT * 0x55; // U u
 
-const W236: u64 = MARK_OR_LOW + LOWER_AT * 0x38 + KIND_AT * 2; // 8 « »
+const W236: u64 = AS_MARK_OR_LOW + LOWER_AT * 0x38 + KIND_AT * 2; // 8 « »
 
 const W1236: u64 = AS_OTHER_LETTER + POINT_AT * 0x76 + CAPITAL_AT * 0x56; // V v
 
-const W46: u64 = CAPITAL_SIGN;
+const W46: u64 = CLASS_AT * CAPITAL_SIGN;
 
 const W346: u64 = AS_OTHER_LETTER + POINT_AT * 0xf3 + CAPITAL_AT * 0xd3; // Ó ó
 
@@ -383,11 +398,11 @@ const W1346: u64 = AS_OTHER_LETTER + POINT_AT * 0x78 + CAPITAL_AT * 0x58; // X x
 
 const W2346: u64 = AS_OTHER_LETTER + POINT_AT * 0xe9 + CAPITAL_AT * 0xc9; // É é
 
-const W256: u64 = LOW_ONLY + LOWER_AT * 0x34; // 4
+const W256: u64 = CLASS_AT * LOW_ONLY + LOWER_AT * 0x34; // 4
 
 const W1256: u64 = AS_OTHER_LETTER + POINT_AT * 0xfc + CAPITAL_AT * 0xdc; // Ü ü
 
-const W356: u64 = LOW_ONLY + LOWER_AT * 0x30; // 0
+const W356: u64 = CLASS_AT * LOW_ONLY + LOWER_AT * 0x30; // 0
 
 const W1356: u64 = AS_OTHER_LETTER + POINT_AT * 0x7a + CAPITAL_AT * 0x5a; // Z z
 
@@ -395,13 +410,13 @@ const W2356: u64 = AS_SIGN_OR_LOW + POINT_AT * 0x3d + LOWER_AT * 0x37; // 7 =
 
 const W12356: u64 = AS_OTHER_LETTER + POINT_AT * 0xe1 + CAPITAL_AT * 0xc1; // Á á
 
-const W456: u64 = PREFIX;
+const W456: u64 = CLASS_AT * PREFIX;
 
 const W2456: u64 = AS_OTHER_LETTER + POINT_AT * 0x77 + CAPITAL_AT * 0x57; // W w
 
 const W12456: u64 = AS_OTHER_LETTER + POINT_AT * 0xf1 + CAPITAL_AT * 0xd1; // Ñ ñ
 
-const W3456: u64 = FIGURE_SIGN;
+const W3456: u64 = CLASS_AT * FIGURE_SIGN;
 
 const W13456: u64 = AS_OTHER_LETTER + POINT_AT * 0x79 + CAPITAL_AT * 0x59; // Y y
 

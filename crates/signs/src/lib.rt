@@ -9,6 +9,7 @@ use cells::D46;
 use cells::D236;
 use cells::D356;
 use cells::D456;
+ghost use mathlib.Core.Bool.{false};
 ghost use mathlib.Core.Path.{_≡_};
 ghost use Prim.Native.Nat.{_+_, _<_, _≤_};
 ghost use lib.ListN.{length};
@@ -19,7 +20,7 @@ ghost use Rattle.pairs.specs.Opened.{openStates};
 ghost use Rattle.signs.specs.Modes.{modeOf, modeCount};
 ghost use Rattle.signs.specs.Fields.{classIn, pointIn, capitalIn, figureIn, lowerIn, kindIn, thenIn, usualIn, deedOf, cellOf};
 ghost use Rattle.signs.specs.Words.{wordOf};
-ghost use Rattle.signs.specs.Readings.{noPoint, openerOf, closerOf, markStep, digitCell, stepOf, capitalBy, numberBy, percentBy, prefixBy, askedBy, stepAt};
+ghost use Rattle.signs.specs.Readings.{noPoint, usualBy, openerOf, closerOf, markStep, digitCell, stepOf, capitalBy, numberBy, percentBy, prefixBy, askedBy, stepAt};
 
 mod cells;
 mod table;
@@ -120,61 +121,62 @@ const DENOMINATOR: usize = 6;
 
 const MASCULINE_MARK: usize = 7;
 
-const MARK: usize = 8;
-
 // The questions, which the cells that follow decide. Those from BEGINS_RUN on are about 46.
-const POINT: usize = 9;
+const POINT: usize = 8;
 
-const ONE_OR_FEMININE: usize = 10;
+const ONE_OR_FEMININE: usize = 9;
 
-const HYPHEN_OR_DASH: usize = 11;
+const HYPHEN_OR_DASH: usize = 10;
 
-const DASH_ONLY: usize = 12;
+const DASH_ONLY: usize = 11;
 
-const NUMBER_SIGN: usize = 13;
+const NUMBER_SIGN: usize = 12;
 
-const SEPARATES: usize = 14;
+const SEPARATES: usize = 13;
 
-const PREFIXED: usize = 15;
+const PREFIXED: usize = 14;
 
-const BEGINS_RUN: usize = 16;
+const BEGINS_RUN: usize = 15;
 
-const RUN_GOES_ON: usize = 17;
+const RUN_GOES_ON: usize = 16;
 
-const SECOND_CAPITAL: usize = 18;
+const SECOND_CAPITAL: usize = 17;
 
-const OWED_CAPITAL: usize = 19;
+const OWED_CAPITAL: usize = 18;
 
-const GREATER_ONLY: usize = 20;
+const GREATER_ONLY: usize = 19;
 
-// The fields of a cell's word, from the lowest: where each stands, and how many values it has room for.
-const CLASS_PLACES: u64 = 16;
+// The fields of a cell's word, from the lowest: where each stands, and how many values it has room for. What is asked of most cells is where the machine
+// finds it at once: the modes lowest, the mode after it highest.
+const USUAL_AT: u64 = 1;
 
-const POINT_AT: u64 = 16;
+const MODE_PLACES: usize = 16;
+
+const WORD_BITS: usize = 64;
+
+const POINT_AT: u64 = 65536;
 
 const POINT_PLACES: u64 = 65536;
 
-const CAPITAL_AT: u64 = 1048576;
+const CAPITAL_AT: u64 = 4294967296;
 
 const CAPITAL_PLACES: u64 = 256;
 
-const FIGURE_AT: u64 = 268435456;
+const FIGURE_AT: u64 = 1099511627776;
 
-const LOWER_AT: u64 = 17179869184;
+const LOWER_AT: u64 = 70368744177664;
 
 const FIGURE_PLACES: u64 = 64;
 
-const KIND_AT: u64 = 1099511627776;
+const KIND_AT: u64 = 4503599627370496;
 
 const KIND_PLACES: u64 = 16;
 
-const THEN_AT: u64 = 17592186044416;
+const CLASS_AT: u64 = 72057594037927936;
 
-const THEN_PLACES: u64 = 16;
+const CLASS_PLACES: u64 = 16;
 
-const USUAL_AT: u64 = 281474976710656;
-
-const MODE_PLACES: usize = 16;
+const THEN_AT: u64 = 1152921504606846976;
 
 // How many classes a row of the table has room for.
 const TABLE_ROW: usize = 16;
@@ -184,7 +186,8 @@ pub const NO_POINT: u32 = 0;
 
 const NO_CELL: u8 = 64;
 
-const LAST_CELL: u8 = 63;
+// "Cells are bytes 0 to 63"
+pub const LAST_CELL: u8 = 63;
 
 // The code points that a deed gives by itself.
 const FULL_STOP: u32 = 0x2e; // .
@@ -213,7 +216,7 @@ const INNER_QUOTES: usize = 3;
 fn class_in(word: u64) -> usize
     ensures { λ r. ⌜ r ≡ classIn word ⌝ }
 {
-    (word % CLASS_PLACES) as usize
+    (word / CLASS_AT % CLASS_PLACES) as usize
 }
 
 // The small letter or the sign that the cell is alone.
@@ -255,14 +258,14 @@ fn kind_in(word: u64) -> usize
 fn then_in(word: u64) -> usize
     ensures { λ r. ⌜ r ≡ thenIn word ⌝ }
 {
-    (word / THEN_AT % THEN_PLACES) as usize
+    (word / THEN_AT) as usize
 }
 
 // Is it read as usual in this mode? (A mode is below 16, so that the remainder is the mode.)
-fn is_usual(word: u64, mode: usize) -> bool
+pub fn is_usual(word: u64, mode: usize) -> bool
     ensures { λ r. ⌜ r ≡ usualIn word mode ⌝ }
 {
-    (word / USUAL_AT >> (mode % MODE_PLACES)) % 2 == 1
+    (word >> (mode % WORD_BITS)) % 2 == 1
 }
 
 // What the table says of a mode and a class. (Both are below 16, so that the remainders are they.)
@@ -489,15 +492,30 @@ fn asked(row: &[u8], at: usize, word: u64, deed: usize, opened: usize) -> Step
     }
 }
 
-// The sign that starts at a place of the row.
-pub fn sign_at(row: &[u8], at: usize, mode: usize, opened: usize) -> Step
-    requires { ⌜ (length (now row) ≤ longestRow) × (at < length (now row)) × (mode < modeCount) × (opened < openStates) ⌝ }
+// The word of a cell.
+pub fn word_of(cell: u8) -> u64
+    ensures { λ r. ⌜ r ≡ wordOf cell ⌝ }
+{
+    cells::word_of(cell)
+}
+
+// The sign of a cell that is read as usual: its small letter or sign, or its pair mark.
+pub fn usual(word: u64, at: usize, opened: usize) -> Step
+    requires { ⌜ (at < longestRow) × (opened < openStates) × (pointIn word ≡ noPoint → kindIn word < kinds) ⌝ }
+    ensures { λ r. ⌜ r ≡ stepOf at opened (usualBy word) ⌝ }
+{
+    let point = point_in(word);
+    if point == NO_POINT {
+        return mark(kind_in(word), at + 1, opened);
+    }
+    sign(point, at + 1, then_in(word), opened)
+}
+
+// The sign that starts at a place of the row, where the cell there, whose word is at hand, is not read as usual.
+pub fn sign_at(row: &[u8], at: usize, word: u64, mode: usize, opened: usize) -> Step
+    requires { ⌜ (length (now row) ≤ longestRow) × (at < length (now row)) × (opened < openStates) × (word ≡ wordOf (cellOf (now row) at)) × (usualIn word mode ≡ false) ⌝ }
     ensures { λ r. ⌜ r ≡ stepAt (now (row .entry)) at mode opened ⌝ }
 {
-    let word = cells::word_of(row[at]);
-    if is_usual(word, mode) {
-        return sign(point_in(word), at + 1, then_in(word), opened);
-    }
     let deed = deed_of(mode, class_in(word));
     match deed {
         NO_SIGN => Step::Nothing,
@@ -519,7 +537,6 @@ pub fn sign_at(row: &[u8], at: usize, mode: usize, opened: usize) -> Step
             mode: FREE,
             opened,
         },
-        MARK => mark(kind_in(word), at + 1, opened),
         _ => asked(row, at, word, deed, opened),
     }
 }

@@ -11,7 +11,6 @@ use crate::DIGIT_UNDER;
 use crate::GREATER_ONLY;
 use crate::HYPHEN_OR_DASH;
 use crate::LOWER_DIGIT;
-use crate::MARK;
 use crate::MASCULINE_MARK;
 use crate::NO_SIGN;
 use crate::NUMBER_SIGN;
@@ -43,7 +42,7 @@ pub fn deed_at(place: usize) -> usize
         5 => AS_USUAL, // STOP full stop
         6 => AS_USUAL, // COMMA comma, and a lower digit
         7 => AS_USUAL, // SIGN_OR_LOW a sign, and a lower digit
-        8 => MARK, // MARK_OR_LOW a pair mark, and a lower digit
+        8 => AS_USUAL, // MARK_OR_LOW a pair mark, and a lower digit
         9 => NO_SIGN, // LOW_ONLY a lower digit
         10 => AS_USUAL, // SIGN a sign
         11 => HYPHEN_OR_DASH, // LINE 36: a hyphen, or half of U+2014
@@ -60,7 +59,7 @@ pub fn deed_at(place: usize) -> usize
         21 => AS_USUAL, // STOP full stop
         22 => AS_USUAL, // COMMA comma, and a lower digit
         23 => AS_USUAL, // SIGN_OR_LOW a sign, and a lower digit
-        24 => MARK, // MARK_OR_LOW a pair mark, and a lower digit
+        24 => AS_USUAL, // MARK_OR_LOW a pair mark, and a lower digit
         25 => NO_SIGN, // LOW_ONLY a lower digit
         26 => AS_USUAL, // SIGN a sign
         27 => HYPHEN_OR_DASH, // LINE 36: a hyphen, or half of U+2014
@@ -94,7 +93,7 @@ pub fn deed_at(place: usize) -> usize
         53 => AS_USUAL, // STOP full stop
         54 => AS_USUAL, // COMMA comma, and a lower digit
         55 => AS_USUAL, // SIGN_OR_LOW a sign, and a lower digit
-        56 => MARK, // MARK_OR_LOW a pair mark, and a lower digit
+        56 => AS_USUAL, // MARK_OR_LOW a pair mark, and a lower digit
         57 => NO_SIGN, // LOW_ONLY a lower digit
         58 => AS_USUAL, // SIGN a sign
         59 => HYPHEN_OR_DASH, // LINE 36: a hyphen, or half of U+2014
@@ -128,7 +127,7 @@ pub fn deed_at(place: usize) -> usize
         85 => AS_USUAL, // STOP full stop
         86 => AS_USUAL, // COMMA comma, and a lower digit
         87 => AS_USUAL, // SIGN_OR_LOW a sign, and a lower digit
-        88 => MARK, // MARK_OR_LOW a pair mark, and a lower digit
+        88 => AS_USUAL, // MARK_OR_LOW a pair mark, and a lower digit
         89 => NO_SIGN, // LOW_ONLY a lower digit
         90 => AS_USUAL, // SIGN a sign
         91 => HYPHEN_OR_DASH, // LINE 36: a hyphen, or half of U+2014
@@ -145,7 +144,7 @@ pub fn deed_at(place: usize) -> usize
         101 => POINT, // STOP full stop
         102 => POINT, // COMMA comma, and a lower digit
         103 => AS_USUAL, // SIGN_OR_LOW a sign, and a lower digit
-        104 => MARK, // MARK_OR_LOW a pair mark, and a lower digit
+        104 => AS_USUAL, // MARK_OR_LOW a pair mark, and a lower digit
         105 => NO_SIGN, // LOW_ONLY a lower digit
         106 => AS_USUAL, // SIGN a sign
         107 => HYPHEN_OR_DASH, // LINE 36: a hyphen, or half of U+2014
@@ -196,7 +195,7 @@ pub fn deed_at(place: usize) -> usize
         149 => AS_USUAL, // STOP full stop
         150 => AS_USUAL, // COMMA comma, and a lower digit
         151 => AS_USUAL, // SIGN_OR_LOW a sign, and a lower digit
-        152 => MARK, // MARK_OR_LOW a pair mark, and a lower digit
+        152 => AS_USUAL, // MARK_OR_LOW a pair mark, and a lower digit
         153 => NO_SIGN, // LOW_ONLY a lower digit
         154 => AS_USUAL, // SIGN a sign
         155 => HYPHEN_OR_DASH, // LINE 36: a hyphen, or half of U+2014
@@ -230,7 +229,7 @@ pub fn deed_at(place: usize) -> usize
         181 => AS_USUAL, // STOP full stop
         182 => AS_USUAL, // COMMA comma, and a lower digit
         183 => AS_USUAL, // SIGN_OR_LOW a sign, and a lower digit
-        184 => MARK, // MARK_OR_LOW a pair mark, and a lower digit
+        184 => AS_USUAL, // MARK_OR_LOW a pair mark, and a lower digit
         185 => NO_SIGN, // LOW_ONLY a lower digit
         186 => AS_USUAL, // SIGN a sign
         187 => HYPHEN_OR_DASH, // LINE 36: a hyphen, or half of U+2014
@@ -247,7 +246,7 @@ pub fn deed_at(place: usize) -> usize
         197 => AS_USUAL, // STOP full stop
         198 => AS_USUAL, // COMMA comma, and a lower digit
         199 => AS_USUAL, // SIGN_OR_LOW a sign, and a lower digit
-        200 => MARK, // MARK_OR_LOW a pair mark, and a lower digit
+        200 => AS_USUAL, // MARK_OR_LOW a pair mark, and a lower digit
         201 => NO_SIGN, // LOW_ONLY a lower digit
         202 => AS_USUAL, // SIGN a sign
         203 => NO_SIGN, // LINE 36: a hyphen, or half of U+2014
@@ -264,7 +263,7 @@ pub fn deed_at(place: usize) -> usize
         213 => AS_USUAL, // STOP full stop
         214 => AS_USUAL, // COMMA comma, and a lower digit
         215 => AS_USUAL, // SIGN_OR_LOW a sign, and a lower digit
-        216 => MARK, // MARK_OR_LOW a pair mark, and a lower digit
+        216 => AS_USUAL, // MARK_OR_LOW a pair mark, and a lower digit
         217 => NO_SIGN, // LOW_ONLY a lower digit
         218 => AS_USUAL, // SIGN a sign
         219 => DASH_ONLY, // LINE 36: a hyphen, or half of U+2014
@@ -281,7 +280,7 @@ pub fn deed_at(place: usize) -> usize
         229 => AS_USUAL, // STOP full stop
         230 => AS_USUAL, // COMMA comma, and a lower digit
         231 => AS_USUAL, // SIGN_OR_LOW a sign, and a lower digit
-        232 => MARK, // MARK_OR_LOW a pair mark, and a lower digit
+        232 => AS_USUAL, // MARK_OR_LOW a pair mark, and a lower digit
         233 => NO_SIGN, // LOW_ONLY a lower digit
         234 => AS_USUAL, // SIGN a sign
         235 => HYPHEN_OR_DASH, // LINE 36: a hyphen, or half of U+2014
@@ -298,7 +297,7 @@ pub fn deed_at(place: usize) -> usize
         245 => AS_USUAL, // STOP full stop
         246 => AS_USUAL, // COMMA comma, and a lower digit
         247 => AS_USUAL, // SIGN_OR_LOW a sign, and a lower digit
-        248 => MARK, // MARK_OR_LOW a pair mark, and a lower digit
+        248 => AS_USUAL, // MARK_OR_LOW a pair mark, and a lower digit
         249 => NO_SIGN, // LOW_ONLY a lower digit
         250 => AS_USUAL, // SIGN a sign
         251 => HYPHEN_OR_DASH, // LINE 36: a hyphen, or half of U+2014

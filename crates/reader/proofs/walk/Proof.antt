@@ -1,37 +1,37 @@
--- `walk`: between two signs, what is still to come gives the whole answer (`Mid`), and the lent text with what is still to come laid behind what is
--- written is the text that it will be (`Lent`). A sign is a turn, whether it is put or only counted. The measure is what is left of the row.
--- Assumes nothing.
-use mathlib.Core.Path.{_≡_, refl, sym, _∙_}
+-- `walk`: between two signs, what was read of the part so far, its count and what is written (`Mid`). A sign is a turn, whether it is read as usual or by the
+-- inner step. The measure is what is left of the part. Assumes nothing.
+use mathlib.Core.Path.{_≡_, sym, _∙_}
 use mathlib.Core.List.{List}
-use mathlib.Core.Logic.{inl, inr, ⊎-elim}
-use mathlib.Core.Option.{Option, none}
+use mathlib.Core.Option.{none}
 use Prim.Native.Nat.{ℕ, _+_, _-_, _<_}
 use native.Mathlib.Omega.{arith}
 use borrow.Author.Needs.{needs}
 use lib.ListN.{length, drop}
-use Rattle.rules.specs.Signs.{Sign}
+use Rattle.signs.specs.Fields.{cellOf}
+use Rattle.signs.specs.Words.{wordOf}
+use Rattle.signs.specs.Readings.{stepAt}
 use Rattle.signs.specs.Left.{left}
-use Rattle.signs.specs.Print.{points}
+use Rattle.signs.specs.declared.Step.the-variants.{Nothing}
+use Rattle.signs.proofs.Cases.{word-there, as-usual, kind-known, no-cell}
 use Rattle.signs.proofs.Turning.{Turn, turn-of, none-left}
-use Rattle.reader.proofs.Lending.{Lent, lent-start, lent-length, lent-end, lent-none}
-use Rattle.reader.proofs.Walking.{Mid, mid-start, mid-few, mid-on, mid-none, mid-end, end-text, end-owing, end-open, turn-room, turn-put, turn-count}
+use Rattle.reader.proofs.Walking.{Mid, mid-start, mid-few, mid-on, mid-nowhere, mid-end}
 use Rattle.reader.proofs.walk.Statement.{statement}
 use Rattle.reader.proofs.walk.Tie as tie
 use Rattle.reader.proofs.walk.Reads as reads
 use Rattle.reader.proofs.walk.Lts as lts
-use Rattle.reader.proofs.put_sign.Reads as put-sign-reads
-use Rattle.reader.proofs.width_of.Reads as width-of-reads
-use Rattle.signs.proofs.rests.Reads as rests-reads
+use Rattle.reader.proofs.put.Reads as put-reads
+use Rattle.signs.proofs.is_usual.Reads as is-usual-reads
 use Rattle.signs.proofs.sign_at.Reads as sign-at-reads
+use Rattle.signs.proofs.usual.Reads as usual-reads
+use Rattle.signs.proofs.word_of.Reads as word-of-reads
 
 abbrev Inv-loop : tie.InvT-loop
-Inv-loop row place text₀ mode₀ opened₀ count₀ seen-lead₀ seen-point₀ seen-next₀ at₀ text mode opened count seen-lead seen-point seen-next at =
-    Mid row place mode opened count seen-lead seen-point seen-next at × Lent (left mode opened (drop at row)) (left 0 0 row) text₀ text count
+Inv-loop row from stop begun unclosed text₀ mode₀ opened₀ count₀ at₀ text mode opened count at = Mid row stop from begun unclosed text₀ text mode opened count at
 
 abbrev μ-loop : tie.MeasureT-loop
-μ-loop row place text₀ mode₀ opened₀ count₀ seen-lead₀ seen-point₀ seen-next₀ at₀ text mode opened count seen-lead seen-point seen-next at = length row - at
+μ-loop row from stop begun unclosed text₀ mode₀ opened₀ count₀ at₀ text mode opened count at = length row - at
 
--- THE PLACES: a turn begins; the sign is known; what is seen is known
+-- THE PLACES: a turn begins; the word of the cell is at hand; it is read as usual, or by the inner step, and the sign is known
 abbrev L : Type 0
 L = tie.At-loop Inv-loop μ-loop
 
@@ -41,17 +41,29 @@ start l = l .before .before .before
 abbrev row : L → List ℕ
 row l = start l .args .row .now
 
-abbrev place : L → ℕ
-place l = start l .args .place
+abbrev I : Type 0
+I = tie.In-loop Inv-loop μ-loop
 
-abbrev still-left : L → Option (List Sign)
-still-left l = left (l .loop .mode) (l .loop .opened) (drop (l .loop .at) (row l))
+inside : (i : I) → i .before .loop .at < length (row (i .before))
+inside i = omega (arith, i .loop-test .taken, start (i .before) .pre .2)
+
+abbrev W : Type 0
+W = tie.After-is-usual Inv-loop μ-loop
+
+abbrev in-w : W → I
+in-w w = w .before .before .before .before
+
+abbrev at-w : W → L
+at-w w = in-w w .before
+
+word-is : (w : W) → w .before .word-of .result ≡ wordOf (cellOf (row (at-w w)) (at-w w .loop .at))
+word-is w = w .before .word-of .ensures ∙ word-there (row (at-w w)) (at-w w .loop .at) (inside (in-w w))
 
 abbrev K : Type 0
 K = tie.After-known-told Inv-loop μ-loop
 
-abbrev at-k : K → L
-at-k c = c .before .before .before .before .before
+abbrev of-k : K → W
+of-k c = c .before .before .before .before .before
 
 abbrev lead : K → ℕ
 lead c = c .before .lead .given .0 .0
@@ -68,36 +80,89 @@ mode-after c = c .before .lead .given .0 .1 .1 .1 .0
 abbrev opened-after : K → ℕ
 opened-after c = c .before .lead .given .0 .1 .1 .1 .1 .0
 
-turn : (c : K) → Turn (row (at-k c)) (at-k c .loop .at) (at-k c .loop .mode) (at-k c .loop .opened) (lead c) (point c) (next c) (mode-after c) (opened-after c)
-turn c =
-    let l = at-k c in
-    turn-of (row l) (l .loop .at) (l .loop .mode) (l .loop .opened) (c .before .before .before .before .loop-test .taken) (l .loop .inv .0 .mode) (l .loop .inv .0 .opens)
-    (lead c) (point c) (next c) (mode-after c) (opened-after c)
-    (sym (c .before .before .before .sign-at .ensures) ∙ c .before .lead .given .1)
-
-few : (c : K) (r : ℕ) → r ≡ length (points (lead c) (point c)) → at-k c .loop .count + r < 18446744073709551616
-few c r e =
-    let l = at-k c in
-    omega (arith, mid-few (l .loop .inv .0) (turn c) r e, turn c .within, start l .pre .0)
-
 abbrev J : Type 0
-J = tie.Joined1 Inv-loop μ-loop
+J = tie.After-known-told2 Inv-loop μ-loop
 
-mid : (j : J) (r : ℕ) → let c = j .before in
-    r ≡ length (points (lead c) (point c))
-    → Mid (row (at-k c)) (place (at-k c)) (mode-after c) (opened-after c) (at-k c .loop .count + r) (j .if1 .seen-lead) (j .if1 .seen-point) (j .if1 .seen-next) (next c)
-mid j r e =
-    let c = j .before in
-    mid-on (at-k c .loop .inv .0) (turn c) r e
-    (⊎-elim (λ h. inl (h .0 .taken, h .1, h .2, h .3)) (λ h. inr (h .0 .left, h .1, h .2, h .3)) (j .if1 .came))
+abbrev of-j : J → W
+of-j c = c .before .before .before .before .before
+
+abbrev lead2 : J → ℕ
+lead2 c = c .before .lead2 .given .0 .0
+
+abbrev point2 : J → ℕ
+point2 c = c .before .lead2 .given .0 .1 .0
+
+abbrev next2 : J → ℕ
+next2 c = c .before .lead2 .given .0 .1 .1 .0
+
+abbrev mode-after2 : J → ℕ
+mode-after2 c = c .before .lead2 .given .0 .1 .1 .1 .0
+
+abbrev opened-after2 : J → ℕ
+opened-after2 c = c .before .lead2 .given .0 .1 .1 .1 .1 .0
+
+-- what the step at the place is: as usual
+as-read : (u : tie.After-usual Inv-loop μ-loop) → let l = at-w (u .before .before) in
+    u .usual .result ≡ stepAt (row l) (l .loop .at) (l .loop .mode) (l .loop .opened)
+as-read u =
+    let w = u .before .before in
+    let l = at-w w in
+    u .usual .ensures
+    ∙ as-usual (row l) (l .loop .at) (l .loop .mode) (l .loop .opened) (w .before .word-of .result) (word-is w) (sym (w .is-usual .ensures) ∙ u .before .if2 .taken)
+
+turn : (c : K) → let l = at-w (of-k c) in
+    Turn (row l) (l .loop .at) (l .loop .mode) (l .loop .opened) (lead c) (point c) (next c) (mode-after c) (opened-after c)
+turn c =
+    let w = of-k c in
+    let l = at-w w in
+    turn-of (row l) (l .loop .at) (l .loop .mode) (l .loop .opened) (inside (in-w w)) (l .loop .inv .leads .mode) (l .loop .inv .leads .opens)
+    (lead c) (point c) (next c) (mode-after c) (opened-after c) (sym (as-read (c .before .before .before)) ∙ c .before .lead .given .1)
+
+turn2 : (c : J) → let l = at-w (of-j c) in
+    Turn (row l) (l .loop .at) (l .loop .mode) (l .loop .opened) (lead2 c) (point2 c) (next2 c) (mode-after2 c) (opened-after2 c)
+turn2 c =
+    let w = of-j c in
+    let l = at-w w in
+    turn-of (row l) (l .loop .at) (l .loop .mode) (l .loop .opened) (inside (in-w w)) (l .loop .inv .leads .mode) (l .loop .inv .leads .opens)
+    (lead2 c) (point2 c) (next2 c) (mode-after2 c) (opened-after2 c) (sym (c .before .before .before .sign-at .ensures) ∙ c .before .lead2 .given .1)
+
+-- no sign starts at the place
+stuck : (i : I) → let l = i .before in stepAt (row l) (l .loop .at) (l .loop .mode) (l .loop .opened) ≡ Nothing → left (l .loop .mode) (l .loop .opened) (drop (l .loop .at) (row l)) ≡ none
+stuck i e =
+    let l = i .before in
+    none-left (row l) (l .loop .at) (l .loop .mode) (l .loop .opened) (inside i) (l .loop .inv .leads .mode) (l .loop .inv .leads .opens) e
 
 loop-holds : tie.Need-loop-holds Inv-loop μ-loop
 loop-holds c =
     let s = c .before .before in
-    (mid-start (s .args .row .now) (s .args .place) 0 0, lent-start (left 0 0 (s .args .row .now)) (s .args .text .now) (s .pre .1))
+    mid-start (s .args .row .now) (s .args .stop) (s .args .from) (s .args .begun) (s .args .unclosed) (s .args .text .now) (s .pre .1) (s .pre .3) (s .pre .4)
 
-sign-at-requires : tie.Need-sign-at-requires Inv-loop μ-loop
-sign-at-requires c κs = let l = c .before in (start l .pre .0, c .loop-test .taken, l .loop .inv .0 .mode, l .loop .inv .0 .opens)
+shared-slice-read-cell : tie.Need-shared-slice-read-cell Inv-loop μ-loop
+shared-slice-read-cell c = inside (c .before)
+
+same-length : tie.Need-same-length Inv-loop μ-loop
+same-length c = c .before .before .before .loop .inv .wrote .0
+
+returns : tie.Need-returns Inv-loop μ-loop
+returns c =
+    let i = c .before .before in
+    let l = i .before in
+    mid-nowhere (l .loop .inv) (stuck i (no-cell (row l) (l .loop .at) (l .loop .mode) (l .loop .opened) (l .loop .inv .leads .mode) (inside i) (c .if1 .taken)))
+
+word-of-requires : tie.Need-word-of-requires Inv-loop μ-loop
+word-of-requires c κs = search needs
+
+is-usual-requires : tie.Need-is-usual-requires Inv-loop μ-loop
+is-usual-requires c κs = search needs
+
+usual-requires : tie.Need-usual-requires Inv-loop μ-loop
+usual-requires c κs =
+    let w = c .before in
+    let l = at-w w in (
+      omega (arith, inside (in-w w), start l .pre .0),
+      l .loop .inv .leads .opens,
+      kind-known (row l) (l .loop .at) (l .loop .mode) (w .before .word-of .result) (l .loop .inv .leads .mode) (word-is w) (sym (w .is-usual .ensures) ∙ c .if2 .taken),
+    )
 
 enum-known-lead : tie.Need-enum-known-lead Inv-loop μ-loop
 enum-known-lead c = search needs
@@ -105,101 +170,65 @@ enum-known-lead c = search needs
 enum-told : tie.Need-enum-told Inv-loop μ-loop
 enum-told c = search needs
 
--- no sign: the row has no text
-stuck : (c : tie.After-enum-told Inv-loop μ-loop) → still-left (c .before .before .before .before) ≡ none
-stuck c =
-    let i = c .before .before .before in
-    let l = i .before in
-    none-left (row l) (l .loop .at) (l .loop .mode) (l .loop .opened) (i .loop-test .taken) (l .loop .inv .0 .mode) (l .loop .inv .0 .opens)
-    (sym (c .before .before .sign-at .ensures) ∙ c .enum-told .given .1)
+same-length-2 : tie.Need-same-length-2 Inv-loop μ-loop
+same-length-2 c = at-w (c .before .before .before .before) .loop .inv .wrote .0
 
-same-length : tie.Need-same-length Inv-loop μ-loop
-same-length c = lent-length (c .before .before .before .before .loop .inv .1)
+returns-2 : tie.Need-returns-2 Inv-loop μ-loop
+returns-2 c =
+    let u = c .before .before in
+    let w = u .before .before in
+    mid-nowhere (at-w w .loop .inv) (stuck (in-w w) (sym (as-read u) ∙ c .enum-told .given .1))
 
-returns : tie.Need-returns Inv-loop μ-loop
-returns c = let l = c .before .before .before .before in (mid-none (l .loop .inv .0) (stuck c), lent-none (stuck c) (l .loop .inv .1))
-
-mul-put-sign : tie.Need-mul-put-sign Inv-loop μ-loop
-mul-put-sign c = search needs
-
-sub-put-sign : tie.Need-sub-put-sign Inv-loop μ-loop
-sub-put-sign c = search needs
-
-part-put-sign-start : tie.Need-part-put-sign-start Inv-loop μ-loop
-part-put-sign-start c = search needs
-
-part-put-sign-end : tie.Need-part-put-sign-end Inv-loop μ-loop
-part-put-sign-end c = search needs
-
-put-sign-requires : tie.Need-put-sign-requires Inv-loop μ-loop
-put-sign-requires c κs = let k = c .before .before .before in turn-room (turn k) (at-k k .loop .inv .1) (c .before .if2 .taken)
-
-add-count : tie.Need-add-count Inv-loop μ-loop
-add-count c =
-    let p = c .before .before in
-    omega (arith, few (p .before .before .before .before) (p .put-sign .result) (p .put-sign .ensures .0))
-
-width-of-requires : tie.Need-width-of-requires Inv-loop μ-loop
-width-of-requires c κs = search needs
-
-add-count-2 : tie.Need-add-count-2 Inv-loop μ-loop
-add-count-2 c = let k = c .before .before .before in omega (arith, few k (c .width-of .result) (c .width-of .ensures (point k)))
+put-requires : tie.Need-put-requires Inv-loop μ-loop
+put-requires c κs = let l = at-w (of-k (c .before)) in mid-few (l .loop .inv) (start l .pre .0)
 
 loop-less : tie.Need-loop-less Inv-loop μ-loop
-loop-less c = let t = turn (c .before .before .before .before .before .before) in omega (arith, t .forward, t .within)
+loop-less c = let t = turn (c .before .before .before .before) in omega (arith, t .forward, t .within)
 
 loop-again : tie.Need-loop-again Inv-loop μ-loop
 loop-again c =
     let p = c .before .before in
-    let j = p .before .before .before in
-    let k = j .before in (
-      mid j (p .put-sign .result) (p .put-sign .ensures .0),
-      turn-put (turn k) (at-k k .loop .inv .1) (p .before .before .if2 .taken) (p .put-sign .ensures .0) (p .put-sign .ensures .1) refl,
-    )
+    let k = p .before .before in
+    mid-on (at-w (of-k k) .loop .inv) (turn k) (in-w (of-k k) .loop-test .taken) (p .put .ensures)
 
-loop-less-2 : tie.Need-loop-less-2 Inv-loop μ-loop
-loop-less-2 c = let t = turn (c .before .before .before) in omega (arith, t .forward, t .within)
+sign-at-requires : tie.Need-sign-at-requires Inv-loop μ-loop
+sign-at-requires c κs =
+    let w = c .before in
+    let l = at-w w in
+    (start l .pre .0, inside (in-w w), l .loop .inv .leads .opens, word-is w, sym (w .is-usual .ensures) ∙ c .if2 .left)
 
-loop-again-2 : tie.Need-loop-again-2 Inv-loop μ-loop
-loop-again-2 c =
-    let j = c .before .before in
-    let k = j .before in (
-      mid j (c .width-of .result) (c .width-of .ensures (point k)),
-      turn-count (turn k) (at-k k .loop .inv .1) (c .before .if2 .left) (c .width-of .result),
-    )
+enum-known-lead-2 : tie.Need-enum-known-lead-2 Inv-loop μ-loop
+enum-known-lead-2 c = search needs
 
-rests-requires : tie.Need-rests-requires Inv-loop μ-loop
-rests-requires c κs = c .before .before .loop .inv .0 .mode
-
-same-length-2 : tie.Need-same-length-2 Inv-loop μ-loop
-same-length-2 c = lent-length (c .before .before .before .before .loop .inv .1)
-
-returns-2 : tie.Need-returns-2 Inv-loop μ-loop
-returns-2 c =
-    let e = c .before .before .before in
-    let l = e .before in
-    let q = end-text (l .loop .inv .0) (e .loop-test .left) (c .before .before .if3 .taken) (sym (c .before .rests .ensures) ∙ c .if4 .taken) in
-    (mid-end (l .loop .inv .0) q, lent-end q (l .loop .inv .1))
+enum-told-2 : tie.Need-enum-told-2 Inv-loop μ-loop
+enum-told-2 c = search needs
 
 same-length-3 : tie.Need-same-length-3 Inv-loop μ-loop
-same-length-3 c = lent-length (c .before .before .before .before .loop .inv .1)
+same-length-3 c = at-w (c .before .before .before .before) .loop .inv .wrote .0
 
 returns-3 : tie.Need-returns-3 Inv-loop μ-loop
 returns-3 c =
-    let e = c .before .before .before in
-    let l = e .before in
-    let q = end-owing (l .loop .inv .0) (e .loop-test .left) (sym (c .before .rests .ensures) ∙ c .if4 .left) in
-    (mid-none (l .loop .inv .0) q, lent-none q (l .loop .inv .1))
+    let a = c .before .before in
+    let w = a .before .before in
+    mid-nowhere (at-w w .loop .inv) (stuck (in-w w) (sym (a .sign-at .ensures) ∙ c .enum-told2 .given .1))
+
+put-requires-2 : tie.Need-put-requires-2 Inv-loop μ-loop
+put-requires-2 c κs = let l = at-w (of-j (c .before)) in mid-few (l .loop .inv) (start l .pre .0)
+
+loop-less-2 : tie.Need-loop-less-2 Inv-loop μ-loop
+loop-less-2 c = let t = turn2 (c .before .before .before .before) in omega (arith, t .forward, t .within)
+
+loop-again-2 : tie.Need-loop-again-2 Inv-loop μ-loop
+loop-again-2 c =
+    let p = c .before .before in
+    let k = p .before .before in
+    mid-on (at-w (of-j k) .loop .inv) (turn2 k) (in-w (of-j k) .loop-test .taken) (p .put2 .ensures)
 
 same-length-4 : tie.Need-same-length-4 Inv-loop μ-loop
-same-length-4 c = lent-length (c .before .before .loop .inv .1)
+same-length-4 c = c .before .loop .inv .wrote .0
 
 returns-4 : tie.Need-returns-4 Inv-loop μ-loop
-returns-4 c =
-    let e = c .before in
-    let l = e .before in
-    let q = end-open (l .loop .inv .0) (e .loop-test .left) (c .if3 .left) in
-    (mid-none (l .loop .inv .0) q, lent-none q (l .loop .inv .1))
+returns-4 c = mid-end (c .before .loop .inv) (c .loop-test .left)
 
 pub walk-spec : {M : Type 1} → statement M
 walk-spec =
@@ -208,27 +237,26 @@ walk-spec =
     Inv-loop
     μ-loop
     loop-holds
-    sign-at-requires
-    enum-known-lead
-    enum-told
+    shared-slice-read-cell
     same-length
     returns
-    mul-put-sign
-    sub-put-sign
-    part-put-sign-start
-    part-put-sign-end
-    put-sign-requires
-    add-count
-    width-of-requires
-    add-count-2
-    loop-less
-    loop-again
-    loop-less-2
-    loop-again-2
-    rests-requires
+    word-of-requires
+    is-usual-requires
+    usual-requires
+    enum-known-lead
+    enum-told
     same-length-2
     returns-2
+    put-requires
+    loop-less
+    loop-again
+    sign-at-requires
+    enum-known-lead-2
+    enum-told-2
     same-length-3
     returns-3
+    put-requires-2
+    loop-less-2
+    loop-again-2
     same-length-4
     returns-4)
