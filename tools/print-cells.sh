@@ -24,14 +24,14 @@ TEXT
 
 # In the order of the layout: an underscore goes before a letter.
 {
-    for name in CAPITAL_AT CLASS_AT FIGURE_AT FREE KIND_AT LOWER_AT MIXED NO_POINT POINT_AT THEN_AT USUAL_AT; do echo "$name"; done
+    for name in CAPITAL_AT CLASS_AT FIGURE_AT FREE KIND_AT LOWER_AT MIXED NO_POINT POINT_AT RUN_CAPITAL RUN_FIGURE RUN_LOWER THEN_AT USUAL_AT; do echo "$name"; done
     printf '%s\n' "$cells" | awk -F '\t' '$1 != "two" { print $3 }'
     printf '%s\n' "$places" | awk -F '\t' '$3 == "AS_USUAL" { print $2 }'
 } | tr _ ' ' | sort -u | tr ' ' _ | sed 's/.*/use crate::&;/'
 
 cat <<'TEXT'
 ghost use mathlib.Core.Path.{_≡_};
-ghost use Rattle.signs.specs.Fields.{capitalIn, figureIn, lowerIn, letterIn};
+ghost use Rattle.signs.specs.Fields.{capitalIn, figureIn, lowerIn, letterIn, runIn};
 ghost use Rattle.signs.specs.Words.{wordOf, twoOf};
 
 // The cells, by their dots.
@@ -122,11 +122,36 @@ TEXT
 }
 
 field capital_of 5 'The capital of a letter, or NO_POINT.' capitalIn
+field capital_owed 5 'The same, where one capital follows another, each with its 46. (A look-up of its own, for the loop over them.)' capitalIn
 field figure_of 6 'The digit of a cell, or NO_POINT.' figureIn
 field lower_of 7 'The digit of a cell as a lower digit, or NO_POINT.' lowerIn
 field letter_of 4 'The letter of a cell that is a digit too, a to j, or NO_POINT.' letterIn 6
 
 cat <<'TEXT'
+
+// What a cell is within a run, where each cell is one code point: its digit, its capital and its lower digit, a field for each.
+TEXT
+printf '%s\n' "$cells" | awk -F '\t' '
+$1 != "two" && $5 $6 $7 != "nonenonenone" {
+    word = ""
+    if ($6 != "none") word = word " + RUN_FIGURE * " $6
+    if ($5 != "none") word = word " + RUN_CAPITAL * " $5
+    if ($7 != "none") word = word " + RUN_LOWER * " $7
+    print "const R" $2 ": u64 = " substr(word, 4) "; // " $9
+    print ""
+}'
+cat <<'TEXT'
+pub fn run_word(cell: u8) -> u64
+    ensures { λ r. ⌜ r ≡ runIn (wordOf cell) ⌝ }
+{
+    match cell {
+TEXT
+printf '%s\n' "$cells" | awk -F '\t' '
+$1 != "two" { print "        D" $2 " => " ($5 $6 $7 == "nonenonenone" ? "NOTHING" : "R" $2) "," }'
+cat <<'TEXT'
+        _ => NOTHING,
+    }
+}
 
 // Two cells as one number.
 const CELL_PLACES: usize = 64;

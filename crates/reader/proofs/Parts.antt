@@ -8,7 +8,7 @@ use mathlib.Core.Option.{Option, none, some}
 use Prim.Native.Nat.{ℕ, _+_, _-_, _*_, _≤_, _<_}
 use native.Mathlib.Omega.{arith}
 use lib.Dec.{eqb}
-use lib.ListN.{length, drop, getD}
+use lib.ListN.{length, drop, getD, length-append}
 use Rattle.rules.specs.Cells.{Row}
 use Rattle.rules.specs.Signs.{Sign, printOf, cellsOf}
 use Rattle.rules.specs.Screen.{signAt}
@@ -129,7 +129,7 @@ module _ {row : Row} {before at m₁ o₁ c₁ : ℕ} (w₁ : Went row before 0 
                 ∙ ap (addSigns (w₁ .signs)) (w₂ .leads .left-is ∙ ap (addSigns (w₂ .signs)) (to-end w₃ ended) ∙ adds-some (w₂ .signs) (w₃ .signs))
                 ∙ adds-some (w₁ .signs) (w₂ .signs ++ w₃ .signs);
             count =
-                omega (arith, w₁ .count, w₂ .count, w₃ .count, print-join (w₁ .signs) (w₂ .signs ++ w₃ .signs), print-join (w₂ .signs) (w₃ .signs));
+                omega (arith, w₁ .count, w₂ .count, w₃ .count, ap length (print-join (w₁ .signs) (w₂ .signs ++ w₃ .signs)), length-append (printOf (w₁ .signs)) (printOf (w₂ .signs ++ w₃ .signs)), ap length (print-join (w₂ .signs) (w₃ .signs)), length-append (printOf (w₂ .signs)) (printOf (w₃ .signs)));
           }
 
       module _ (place : ℕ) (is-before : ((place < length row) × (before ≡ place)) ⊎ ((length row ≤ place) × (before ≡ length row)))

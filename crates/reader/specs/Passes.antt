@@ -62,6 +62,11 @@ pub record Leads (row : Row) (stop at m o k n u : ℕ) (ss : List Sign) : Type 0
   pub mode : n < modeCount
   pub opens : u < openStates
 
+-- WHAT IS READ where signs follow one another alike, behind n code points: so many as are read so
+pub data Runs (row : Row) (stop at m o n : ℕ) (t t' : List ℕ) : Walked → Type 0 where
+  runs-on : (ss : List Sign) (k m' u c : ℕ) → Leads row stop at m o k m' u ss → c ≡ n + length (printOf ss) → Wrote t t' n (printOf ss)
+      → Runs row stop at m o n t t' (On k m' u c)
+
 -- WHAT A WALK FINDS over a part of the row, and what it writes
 pub data Goes (row : Row) (stop at m o : ℕ) (t t' : List ℕ) : Walked → Type 0 where
   goes-on : (ss : List Sign) (k n u c : ℕ) → Leads row stop at m o k n u ss → stop ≤ k → c ≡ length (printOf ss) → Wrote t t' 0 (printOf ss)

@@ -2,14 +2,17 @@
 // One loop walks the row sign by sign. Between two signs it knows a mode and which pairs are open; both follow from the cells before, and neither is kept
 // from one call to the next. `read` walks twice: first without room, so that nothing is written before all is known to fit. `step` walks once, in three
 // parts: up to its place, over the sign there, and to the end.
+use signs::DASH;
 use signs::FREE;
 use signs::LAST_CELL;
 use signs::NO_POINT;
+use signs::NO_RUN;
+use signs::OWING;
 use signs::Step;
 ghost use mathlib.Core.Bool.{_&&_};
 ghost use mathlib.Core.Logic.{_⊎_};
 ghost use mathlib.Core.Path.{_≡_};
-ghost use Prim.Native.Nat.{ℕ, _+_, _≤_, _<_};
+ghost use Prim.Native.Nat.{ℕ, _+_, _*_, _≤_, _<_};
 ghost use lib.Dec.{eqb};
 ghost use lib.ListN.{length, getD};
 ghost use Rattle.rules.specs.Cells.{Text};
@@ -19,10 +22,11 @@ ghost use Rattle.rules.specs.Refusals.{longestRow, reported};
 ghost use Rattle.rules.proofs.Machine.{at-rest};
 ghost use Rattle.pairs.specs.Opened.{openStates};
 ghost use Rattle.rows.specs.Laid.{laid};
-ghost use Rattle.signs.specs.Modes.{modeOf, modeCount};
+ghost use Rattle.signs.specs.Modes.{modeOf, modeCount, owing, dash};
+ghost use Rattle.signs.specs.Runs.{noRun, runOf};
 ghost use Rattle.signs.specs.Print.{points};
 ghost use Rattle.reader.specs.Promise.{Read, Shows};
-ghost use Rattle.reader.specs.Passes.{FirstHigh, RefusesRow, mostPoints, Wrote, Goes};
+ghost use Rattle.reader.specs.Passes.{FirstHigh, RefusesRow, mostPoints, Wrote, Runs, Goes};
 
 // The answer to a row. `Done` has the count of code points written; any other is a refusal, and the lent text is then as it was. Paper 01's number and
 // second number for each are given by `Promise.refusalOf`.
@@ -105,6 +109,164 @@ fn put(text: &mut [u32], count: usize, lead: u32, point: u32) -> usize
     next
 }
 
+// U+2014 behind another: as many as follow. (This and the next two read what `walk` would, with less to ask at each sign.)
+fn dashes(
+    row: &[u8],
+    from: usize,
+    stop: usize,
+    unclosed: usize,
+    text: &mut [u32],
+    counted: usize,
+) -> Walked
+    requires { ⌜ (length (now row) ≤ longestRow) × (from ≤ length (now row)) × (stop ≤ length (now row)) × (unclosed < openStates) × (counted ≤ 2 * from) ⌝ }
+    ensures { λ r. ⌜ Runs (now (row .entry)) stop from dash unclosed counted (now (text .entry)) (now (text .exit)) r ⌝ }
+{
+    let mut at: usize = from;
+    let mut count: usize = counted;
+    while at < stop {
+        let Step::Sign {
+            lead,
+            point,
+            next,
+            mode: _,
+            opened: _,
+        } = signs::dash_at(row, at, unclosed)
+        else {
+            return Walked::On {
+                at,
+                mode: DASH,
+                opened: unclosed,
+                count,
+            };
+        };
+        count = put(text, count, lead, point);
+        at = next;
+    }
+    Walked::On {
+        at,
+        mode: DASH,
+        opened: unclosed,
+        count,
+    }
+}
+
+// A capital with its 46 behind two such or more: as many as follow.
+fn capitals(
+    row: &[u8],
+    from: usize,
+    stop: usize,
+    unclosed: usize,
+    text: &mut [u32],
+    counted: usize,
+) -> Walked
+    requires { ⌜ (length (now row) ≤ longestRow) × (from ≤ length (now row)) × (stop ≤ length (now row)) × (unclosed < openStates) × (counted ≤ 2 * from) ⌝ }
+    ensures { λ r. ⌜ Runs (now (row .entry)) stop from owing unclosed counted (now (text .entry)) (now (text .exit)) r ⌝ }
+{
+    let mut at: usize = from;
+    let mut count: usize = counted;
+    while at < stop {
+        let Step::Sign {
+            lead,
+            point,
+            next,
+            mode: _,
+            opened: _,
+        } = signs::owed_at(row, at, unclosed)
+        else {
+            return Walked::On {
+                at,
+                mode: OWING,
+                opened: unclosed,
+                count,
+            };
+        };
+        count = put(text, count, lead, point);
+        at = next;
+    }
+    Walked::On {
+        at,
+        mode: OWING,
+        opened: unclosed,
+        count,
+    }
+}
+
+// The digits of a number, the letters of a run of capitals, lower digits: as many as follow.
+fn run(
+    row: &[u8],
+    from: usize,
+    stop: usize,
+    begun: usize,
+    unclosed: usize,
+    text: &mut [u32],
+    counted: usize,
+) -> Walked
+    requires { ⌜ (length (now row) ≤ longestRow) × (from ≤ length (now row)) × (stop ≤ length (now row)) × (begun < modeCount) × (unclosed < openStates) × (counted ≤ 2 * from) × (runOf begun < noRun) ⌝ }
+    ensures { λ r. ⌜ Runs (now (row .entry)) stop from begun unclosed counted (now (text .entry)) (now (text .exit)) r ⌝ }
+{
+    let field = signs::run_of(begun);
+    let after = signs::after_run(begun);
+    let mut mode: usize = begun;
+    let mut at: usize = from;
+    let mut count: usize = counted;
+    while at < stop {
+        let Step::Sign {
+            lead,
+            point,
+            next,
+            mode: _,
+            opened: _,
+        } = signs::run_at(row, at, field, after, unclosed)
+        else {
+            return Walked::On {
+                at,
+                mode,
+                opened: unclosed,
+                count,
+            };
+        };
+        count = put(text, count, lead, point);
+        mode = after;
+        at = next;
+    }
+    Walked::On {
+        at,
+        mode,
+        opened: unclosed,
+        count,
+    }
+}
+
+// What follows alike, by the mode that the last sign left.
+fn alike(
+    row: &[u8],
+    from: usize,
+    stop: usize,
+    begun: usize,
+    unclosed: usize,
+    text: &mut [u32],
+    counted: usize,
+) -> Walked
+    requires { ⌜ (length (now row) ≤ longestRow) × (from ≤ length (now row)) × (stop ≤ length (now row)) × (begun < modeCount) × (unclosed < openStates) × (counted ≤ 2 * from) ⌝ }
+    ensures { λ r. ⌜ Runs (now (row .entry)) stop from begun unclosed counted (now (text .entry)) (now (text .exit)) r ⌝ }
+{
+    if begun == DASH {
+        return dashes(row, from, stop, unclosed, text, counted);
+    }
+    if begun == OWING {
+        return capitals(row, from, stop, unclosed, text, counted);
+    }
+    if signs::run_of(begun) < NO_RUN {
+        return run(row, from, stop, begun, unclosed, text, counted);
+    }
+    Walked::On {
+        at: from,
+        mode: begun,
+        opened: unclosed,
+        count: counted,
+    }
+}
+
 // "each step gives the print of the next sign and the place after it." From a place, where a sign starts, and what the signs before it leave, as long as the
 // next sign starts before the place `stop`. Their print is written from the first element on, if there is room.
 fn walk(
@@ -155,9 +317,19 @@ fn walk(
                 return Walked::Nowhere;
             };
             count = put(text, count, lead, point);
-            mode = mode_after;
-            opened = opened_after;
-            at = next;
+            let Walked::On {
+                at: at_last,
+                mode: mode_last,
+                opened: opened_last,
+                count: count_last,
+            } = alike(row, next, stop, mode_after, opened_after, text, count)
+            else {
+                return Walked::Nowhere;
+            };
+            count = count_last;
+            mode = mode_last;
+            opened = opened_last;
+            at = at_last;
         }
     }
     Walked::On {

@@ -9,7 +9,7 @@ use native.Mathlib.Omega.{arith}
 use native.Mathlib.Nat.{not-suc-le-zero, le-of-suc-le-suc}
 use lib.Dec.{T, eqb, leb, ltb, ltb→lt, eqb→eq}
 use lib.ListN.{length, getD, List·getD-eq-default}
-use borrow.Author.Tests.{eq-eqb, ne-eqb, lt-ltb, le-ltb, le-leb, lt-leb, not-true}
+use borrow.Author.Tests.{eq-eqb, ne-eqb, lt-ltb, le-ltb, le-leb, lt-leb, leb-true, not-true}
 use Rattle.rules.specs.Cells.{Row, dots, lastCell}
 use Rattle.rules.specs.Pairs.{kinds}
 use Rattle.rules.proofs.Finite.{below, at-below, and-false, le-or-lt, implies, T-of-eqb}
@@ -22,10 +22,11 @@ use Rattle.signs.specs.Modes as mode
 use Rattle.signs.specs.Modes.{modeOf, modeCount}
 use Rattle.signs.specs.Acts as act
 use Rattle.signs.specs.Deeds.{deeds}
-use Rattle.signs.specs.Fields.{deedOf, classIn, pointIn, capitalIn, figureIn, lowerIn, letterIn, kindIn, thenIn, usualIn, noCell, cellOf}
+use Rattle.signs.specs.Fields.{deedOf, classIn, pointIn, capitalIn, figureIn, lowerIn, letterIn, kindIn, thenIn, usualIn, runPoint, noCell, cellOf}
 use Rattle.signs.specs.Words.{words, wordOf, twoOf}
 use Rattle.signs.specs.Readings.{noPoint, Reading, reads, aMark, one, usualBy, onceList, digitCell, capitalModes, capitalLetter, capitalBy, numberBy, percentBy, innerQuotes, longerBy, prefixBy, askList, askedBy, readingOf, byWord, openerOf, closerOf, markStep, stepOf, stepAt}
 use Rattle.signs.specs.Readings as reading
+use Rattle.signs.specs.Runs.{noRun, runOf, afterRun}
 use Rattle.signs.specs.declared.Step.{Step}
 use Rattle.signs.specs.declared.Step.the-variants as variant
 use Rattle.signs.proofs.Settling.{is-true}
@@ -369,3 +370,119 @@ no-cell row at m o l h k = go (usualIn 0 m) refl (deedOf m (classIn 0)) refl (at
     go : (u : Bool) → usualIn 0 m ≡ u → (d : ℕ) → deedOf m (classIn 0) ≡ d → T (not u && eqb d act.noSign) → stepAt row at m o ≡ variant.Nothing
     go true e d f t = absurd t
     go false e d f t = sym (told-none row at m o 0 word-is e d (sym f) (eqb→eq d act.noSign t))
+
+-- QUICK READINGS. In a run: what each cell is, and the mode behind it, are what the table says
+both : (a b : Bool) → T (a && b) → T a × T b
+both true b t = (tt, t)
+both false b t = absurd t
+
+either : (a b : Bool) → T (a || b) → (T a) ⊎ (T b)
+either true b t = inl tt
+either false b t = inr t
+
+abbrev told-as : ℕ → ℕ → ℕ → ℕ → ℕ → ℕ → Bool
+told-as d p m its-deed its-point its-mode = eqb d its-deed && (eqb p its-point && eqb (afterRun m) its-mode)
+
+abbrev run-told : ℕ → ℕ → ℕ → Bool
+run-told m w p =
+    told-as (deedOf m (classIn w)) p m act.digit (figureIn w) mode.num
+    || (told-as (deedOf m (classIn w)) p m act.digitUnder (figureIn w) mode.under
+    || (told-as (deedOf m (classIn w)) p m act.capitalOfMany (capitalIn w) mode.whole2
+    || told-as (deedOf m (classIn w)) p m act.lowerDigit (lowerIn w) mode.low))
+
+abbrev run-test : ℕ → ℕ → Bool
+run-test m w = leb noRun (runOf m) || (eqb (runPoint w (runOf m)) noPoint || (not (usualIn w m) && run-told m w (runPoint w (runOf m))))
+
+runs-right : T (below (λ x. below (λ m. run-test m (wordOf x)) modeCount) sights)
+unfolding deeds words runOf afterRun
+runs-right = tt
+
+-- a mode of a run, behind one of its cells, is in that run still
+stays-right : T (below (λ m. eqb (runOf (afterRun m)) (runOf m) && (eqb (afterRun (afterRun m)) (afterRun m) && ltb (afterRun m) modeCount)) modeCount)
+unfolding runOf afterRun
+stays-right = tt
+
+pub run-stays : (m : ℕ) → m < modeCount → (runOf (afterRun m) ≡ runOf m) × (afterRun (afterRun m) ≡ afterRun m)
+run-stays m l =
+    let t = at-below (λ m. eqb (runOf (afterRun m)) (runOf m) && (eqb (afterRun (afterRun m)) (afterRun m) && ltb (afterRun m) modeCount)) modeCount stays-right m l in
+    let a = both (eqb (runOf (afterRun m)) (runOf m)) (eqb (afterRun (afterRun m)) (afterRun m) && ltb (afterRun m) modeCount) t in
+    let b = both (eqb (afterRun (afterRun m)) (afterRun m)) (ltb (afterRun m) modeCount) (a .1) in
+    (eqb→eq (runOf (afterRun m)) (runOf m) (a .0), eqb→eq (afterRun (afterRun m)) (afterRun m) (b .0))
+
+module _ (row : Row) (at m o p run : ℕ) (small : m < modeCount) (inside : at < length row) (low : getD row at 0 ≤ lastCell) (is-run : run ≡ runOf m)
+    (some-run : run < noRun) (is-point : p ≡ runPoint (wordOf (getD row at 0)) run) (a-point : p ≡ noPoint → ⊥) where
+  abbrev w : ℕ
+  w = wordOf (cellOf row at)
+
+  point-is : p ≡ runPoint (wordOf (cellOf row at)) (runOf m)
+  point-is = is-point ∙ ap (λ (n : ℕ). runPoint (wordOf n) run) (cell-low row at inside low) ∙ ap (runPoint (wordOf (cellOf row at))) is-run
+
+  is-told : (its-deed its-point its-mode : ℕ) → T (told-as (deedOf m (classIn (wordOf (cellOf row at)))) (runPoint (wordOf (cellOf row at)) (runOf m)) m its-deed its-point its-mode)
+      → (deedOf m (classIn (wordOf (cellOf row at))) ≡ its-deed) × (p ≡ its-point) × (afterRun m ≡ its-mode)
+  is-told its-deed its-point its-mode t =
+      let a = both (eqb (deedOf m (classIn (wordOf (cellOf row at)))) its-deed) (eqb (runPoint (wordOf (cellOf row at)) (runOf m)) its-point && eqb (afterRun m) its-mode) t in
+      let b = both (eqb (runPoint (wordOf (cellOf row at)) (runOf m)) its-point) (eqb (afterRun m) its-mode) (a .1) in
+      (eqb→eq (deedOf m (classIn (wordOf (cellOf row at)))) its-deed (a .0), point-is ∙ eqb→eq (runPoint (wordOf (cellOf row at)) (runOf m)) its-point (b .0), eqb→eq (afterRun m) its-mode (b .1))
+
+  pub run-step : variant.Sign noPoint p (at + 1) (afterRun m) o ≡ stepAt row at m o
+  run-step =
+      ⊎-elim (λ t. absurd (omega (arith, leb-true noRun (runOf m) (is-true (leb noRun (runOf m)) t), is-run, some-run)))
+      (λ t. ⊎-elim (λ k. absurd (a-point (point-is ∙ eqb→eq (runPoint w (runOf m)) noPoint k)))
+      (λ k. by-run (both (not (usualIn w m)) (run-told m w (runPoint w (runOf m))) k))
+      (either (eqb (runPoint w (runOf m)) noPoint) (not (usualIn w m) && run-told m w (runPoint w (runOf m))) t))
+      (either (leb noRun (runOf m)) (eqb (runPoint w (runOf m)) noPoint || (not (usualIn w m) && run-told m w (runPoint w (runOf m))))
+      (at-below (λ m. run-test m w) modeCount (at-below (λ x. below (λ m. run-test m (wordOf x)) modeCount) sights runs-right (cellOf row at) (sight-small (getD row at noCell))) m small))
+    where
+      mode-is : (k : ℕ) → afterRun m ≡ k → variant.Sign noPoint p (at + 1) (afterRun m) o ≡ variant.Sign noPoint p (at + 1) k o
+      mode-is k e = ap (λ (n : ℕ). variant.Sign noPoint p (at + 1) n o) e
+
+      not-usual : T (not (usualIn (wordOf (cellOf row at)) m)) → usualIn (wordOf (cellOf row at)) m ≡ false
+      not-usual t = go (usualIn (wordOf (cellOf row at)) m) t
+        where
+          go : (b : Bool) → T (not b) → b ≡ false
+          go true t = absurd t
+          go false t = refl
+
+      d : ℕ
+      d = deedOf m (classIn (wordOf (cellOf row at)))
+
+      q : ℕ
+      q = runPoint (wordOf (cellOf row at)) (runOf m)
+
+      by-run : T (not (usualIn (wordOf (cellOf row at)) m)) × T (run-told m (wordOf (cellOf row at)) (runPoint (wordOf (cellOf row at)) (runOf m)))
+          → variant.Sign noPoint p (at + 1) (afterRun m) o ≡ stepAt row at m o
+      by-run (u, t) =
+          ⊎-elim
+          (λ k. let h = is-told act.digit (figureIn (wordOf (cellOf row at))) mode.num k in
+          mode-is mode.num (h .2) ∙ told-digit row at m o (wordOf (cellOf row at)) refl (not-usual u) (deedOf m (classIn (wordOf (cellOf row at)))) refl (h .0) p (h .1))
+          (λ k. ⊎-elim
+          (λ k. let h = is-told act.digitUnder (figureIn (wordOf (cellOf row at))) mode.under k in
+          mode-is mode.under (h .2) ∙ told-under row at m o (wordOf (cellOf row at)) refl (not-usual u) (deedOf m (classIn (wordOf (cellOf row at)))) refl (h .0) p (h .1))
+          (λ k. ⊎-elim
+          (λ k. let h = is-told act.capitalOfMany (capitalIn (wordOf (cellOf row at))) mode.whole2 k in
+          mode-is mode.whole2 (h .2) ∙ told-capital row at m o (wordOf (cellOf row at)) refl (not-usual u) (deedOf m (classIn (wordOf (cellOf row at)))) refl (h .0) p (h .1))
+          (λ k. let h = is-told act.lowerDigit (lowerIn (wordOf (cellOf row at))) mode.low k in
+          mode-is mode.low (h .2) ∙ told-lower row at m o (wordOf (cellOf row at)) refl (not-usual u) (deedOf m (classIn (wordOf (cellOf row at)))) refl (h .0) p (h .1))
+          (either (told-as d q m act.capitalOfMany (capitalIn w) mode.whole2) (told-as d q m act.lowerDigit (lowerIn w) mode.low) k))
+          (either (told-as d q m act.digitUnder (figureIn w) mode.under) (told-as d q m act.capitalOfMany (capitalIn w) mode.whole2 || told-as d q m act.lowerDigit (lowerIn w) mode.low) k))
+          (either (told-as d q m act.digit (figureIn w) mode.num) (told-as d q m act.digitUnder (figureIn w) mode.under || (told-as d q m act.capitalOfMany (capitalIn w) mode.whole2 || told-as d q m act.lowerDigit (lowerIn w) mode.low)) t)
+
+-- U+2014 behind another; a capital with its 46 behind another
+pub dash-step : (row : Row) (at o : ℕ) → cellOf row at ≡ dots 36 → cellOf row (at + 1) ≡ dots 36
+    → variant.Sign noPoint (code "—") (at + 2) mode.dash o ≡ stepAt row at mode.dash o
+unfolding stepAt readingOf byWord askedBy words deeds dots
+dash-step row at o e f =
+    sym (ap (λ (x : ℕ). stepOf at o (readingOf mode.dash x (cellOf row (at + 1)) (cellOf row (at + 2)))) e
+    ∙ ap (λ (y : ℕ). stepOf at o (readingOf mode.dash (dots 36) y (cellOf row (at + 2)))) f)
+
+pub owed-step : (row : Row) (at o p : ℕ) → cellOf row at ≡ dots 46 → p ≡ capitalIn (wordOf (cellOf row (at + 1))) → (p ≡ noPoint → ⊥)
+    → variant.Sign noPoint p (at + 2) mode.owing o ≡ stepAt row at mode.owing o
+unfolding stepAt readingOf byWord askedBy capitalBy words deeds dots
+owed-step row at o p e f n =
+    sym (ap (λ (x : ℕ). stepOf at o (readingOf mode.owing x (cellOf row (at + 1)) (cellOf row (at + 2)))) e
+    ∙ rw (
+      ne-eqb (cellOf row (at + 1)) (dots 46) (λ q. n (f ∙ ap (λ (y : ℕ). capitalIn (wordOf y)) q)),
+      ne-eqb (cellOf row (at + 1)) (dots 2) (λ q. n (f ∙ ap (λ (y : ℕ). capitalIn (wordOf y)) q)),
+      ne-eqb (capitalIn (wordOf (cellOf row (at + 1)))) noPoint (λ q. n (f ∙ q)),
+      ← f,
+    ))

@@ -116,6 +116,13 @@ thenIn w = w / thenAt
 abbrev pub usualIn : ℕ → ℕ → Bool
 usualIn w m = eqb (w / 2 ^ (m % 64) % 2) 1
 
+-- WITHIN A RUN, where each cell is one code point: the digit, the capital and the lower digit of a word, 16 bits for each; the field that a run asks for
+abbrev pub runIn : ℕ → ℕ
+runIn w = figureIn w + 65536 * capitalIn w + 4294967296 * lowerIn w
+
+abbrev pub runPoint : ℕ → ℕ → ℕ
+runPoint w run = runIn w / 2 ^ (run % 64) % 65536
+
 -- THE CELL at a place of a row, and `noCell` past its end or where the byte is no cell
 abbrev pub noCell : ℕ
 noCell = 64

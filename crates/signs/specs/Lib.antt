@@ -4,5 +4,6 @@ pub mod Deeds
 pub mod Fields
 pub mod Words
 pub mod Readings
+pub mod Runs
 pub mod Left
 pub mod Print

@@ -30,6 +30,9 @@ use crate::OWING;
 use crate::PERCENT;
 use crate::POINT_AT;
 use crate::PREFIX;
+use crate::RUN_CAPITAL;
+use crate::RUN_FIGURE;
+use crate::RUN_LOWER;
 use crate::SEPARATOR;
 use crate::SIGN;
 use crate::SIGN_OR_LOW;
@@ -39,7 +42,7 @@ use crate::UNDER;
 use crate::USUAL_AT;
 use crate::WHOLE2;
 ghost use mathlib.Core.Path.{_≡_};
-ghost use Rattle.signs.specs.Fields.{capitalIn, figureIn, lowerIn, letterIn};
+ghost use Rattle.signs.specs.Fields.{capitalIn, figureIn, lowerIn, letterIn, runIn};
 ghost use Rattle.signs.specs.Words.{wordOf, twoOf};
 
 // The cells, by their dots.
@@ -538,6 +541,48 @@ pub fn capital_of(cell: u8) -> u32
     }
 }
 
+// The same, where one capital follows another, each with its 46. (A look-up of its own, for the loop over them.)
+pub fn capital_owed(cell: u8) -> u32
+    ensures { λ r. ⌜ r ≡ capitalIn (wordOf cell) ⌝ }
+{
+    match cell {
+        D1 => 0x41, // 1 A a ª
+        D12 => 0x42, // 2 B b
+        D13 => 0x4b, // K k
+        D123 => 0x4c, // L l
+        D14 => 0x43, // 3 C c
+        D24 => 0x49, // 9 I i
+        D124 => 0x46, // 6 F f
+        D34 => 0xcd, // Í í
+        D134 => 0x4d, // M m
+        D234 => 0x53, // S s
+        D1234 => 0x50, // P p
+        D15 => 0x45, // 5 E e
+        D125 => 0x48, // 8 H h
+        D135 => 0x4f, // O o º
+        D1235 => 0x52, // R r
+        D145 => 0x44, // 4 D d
+        D245 => 0x4a, // 0 J j
+        D1245 => 0x47, // 7 G g
+        D1345 => 0x4e, // N n
+        D2345 => 0x54, // T t
+        D12345 => 0x51, // Q q
+        D136 => 0x55, // U u
+        D1236 => 0x56, // V v
+        D346 => 0xd3, // Ó ó
+        D1346 => 0x58, // X x
+        D2346 => 0xc9, // É é
+        D1256 => 0xdc, // Ü ü
+        D1356 => 0x5a, // Z z
+        D12356 => 0xc1, // Á á
+        D2456 => 0x57, // W w
+        D12456 => 0xd1, // Ñ ñ
+        D13456 => 0x59, // Y y
+        D23456 => 0xda, // Ú ú
+        _ => NO_POINT,
+    }
+}
+
 // The digit of a cell, or NO_POINT.
 pub fn figure_of(cell: u8) -> u32
     ensures { λ r. ⌜ r ≡ figureIn (wordOf cell) ⌝ }
@@ -592,6 +637,165 @@ pub fn letter_of(cell: u8) -> u32
         D245 => 0x6a, // 0 J j
         D1245 => 0x67, // 7 G g
         _ => NO_POINT,
+    }
+}
+
+// What a cell is within a run, where each cell is one code point: its digit, its capital and its lower digit, a field for each.
+const R1: u64 = RUN_FIGURE * 0x31 + RUN_CAPITAL * 0x41; // 1 A a ª
+
+const R2: u64 = RUN_LOWER * 0x31; // , 1
+
+const R12: u64 = RUN_FIGURE * 0x32 + RUN_CAPITAL * 0x42; // 2 B b
+
+const R13: u64 = RUN_CAPITAL * 0x4b; // K k
+
+const R23: u64 = RUN_LOWER * 0x32; // 2 ;
+
+const R123: u64 = RUN_CAPITAL * 0x4c; // L l
+
+const R14: u64 = RUN_FIGURE * 0x33 + RUN_CAPITAL * 0x43; // 3 C c
+
+const R24: u64 = RUN_FIGURE * 0x39 + RUN_CAPITAL * 0x49; // 9 I i
+
+const R124: u64 = RUN_FIGURE * 0x36 + RUN_CAPITAL * 0x46; // 6 F f
+
+const R34: u64 = RUN_CAPITAL * 0xcd; // Í í
+
+const R134: u64 = RUN_CAPITAL * 0x4d; // M m
+
+const R234: u64 = RUN_CAPITAL * 0x53; // S s
+
+const R1234: u64 = RUN_CAPITAL * 0x50; // P p
+
+const R15: u64 = RUN_FIGURE * 0x35 + RUN_CAPITAL * 0x45; // 5 E e
+
+const R25: u64 = RUN_LOWER * 0x33; // 3 :
+
+const R125: u64 = RUN_FIGURE * 0x38 + RUN_CAPITAL * 0x48; // 8 H h
+
+const R35: u64 = RUN_LOWER * 0x39; // 9 emphasis opens emphasis closes
+
+const R135: u64 = RUN_CAPITAL * 0x4f; // O o º
+
+const R235: u64 = RUN_LOWER * 0x36; // ! 6 ¡
+
+const R1235: u64 = RUN_CAPITAL * 0x52; // R r
+
+const R145: u64 = RUN_FIGURE * 0x34 + RUN_CAPITAL * 0x44; // 4 D d
+
+const R245: u64 = RUN_FIGURE * 0x30 + RUN_CAPITAL * 0x4a; // 0 J j
+
+const R1245: u64 = RUN_FIGURE * 0x37 + RUN_CAPITAL * 0x47; // 7 G g
+
+const R1345: u64 = RUN_CAPITAL * 0x4e; // N n
+
+const R2345: u64 = RUN_CAPITAL * 0x54; // T t
+
+const R12345: u64 = RUN_CAPITAL * 0x51; // Q q
+
+const R26: u64 = RUN_LOWER * 0x35; // 5 ? ¿
+
+const R136: u64 = RUN_CAPITAL * 0x55; // U u
+
+const R236: u64 = RUN_LOWER * 0x38; // 8 « »
+
+const R1236: u64 = RUN_CAPITAL * 0x56; // V v
+
+const R346: u64 = RUN_CAPITAL * 0xd3; // Ó ó
+
+const R1346: u64 = RUN_CAPITAL * 0x58; // X x
+
+const R2346: u64 = RUN_CAPITAL * 0xc9; // É é
+
+const R256: u64 = RUN_LOWER * 0x34; // 4
+
+const R1256: u64 = RUN_CAPITAL * 0xdc; // Ü ü
+
+const R356: u64 = RUN_LOWER * 0x30; // 0
+
+const R1356: u64 = RUN_CAPITAL * 0x5a; // Z z
+
+const R2356: u64 = RUN_LOWER * 0x37; // 7 =
+
+const R12356: u64 = RUN_CAPITAL * 0xc1; // Á á
+
+const R2456: u64 = RUN_CAPITAL * 0x57; // W w
+
+const R12456: u64 = RUN_CAPITAL * 0xd1; // Ñ ñ
+
+const R13456: u64 = RUN_CAPITAL * 0x59; // Y y
+
+const R23456: u64 = RUN_CAPITAL * 0xda; // Ú ú
+
+pub fn run_word(cell: u8) -> u64
+    ensures { λ r. ⌜ r ≡ runIn (wordOf cell) ⌝ }
+{
+    match cell {
+        D0 => NOTHING,
+        D1 => R1,
+        D2 => R2,
+        D12 => R12,
+        D3 => NOTHING,
+        D13 => R13,
+        D23 => R23,
+        D123 => R123,
+        D4 => NOTHING,
+        D14 => R14,
+        D24 => R24,
+        D124 => R124,
+        D34 => R34,
+        D134 => R134,
+        D234 => R234,
+        D1234 => R1234,
+        D5 => NOTHING,
+        D15 => R15,
+        D25 => R25,
+        D125 => R125,
+        D35 => R35,
+        D135 => R135,
+        D235 => R235,
+        D1235 => R1235,
+        D45 => NOTHING,
+        D145 => R145,
+        D245 => R245,
+        D1245 => R1245,
+        D345 => NOTHING,
+        D1345 => R1345,
+        D2345 => R2345,
+        D12345 => R12345,
+        D6 => NOTHING,
+        D16 => NOTHING,
+        D26 => R26,
+        D126 => NOTHING,
+        D36 => NOTHING,
+        D136 => R136,
+        D236 => R236,
+        D1236 => R1236,
+        D46 => NOTHING,
+        D146 => NOTHING,
+        D246 => NOTHING,
+        D1246 => NOTHING,
+        D346 => R346,
+        D1346 => R1346,
+        D2346 => R2346,
+        D12346 => NOTHING,
+        D56 => NOTHING,
+        D156 => NOTHING,
+        D256 => R256,
+        D1256 => R1256,
+        D356 => R356,
+        D1356 => R1356,
+        D2356 => R2356,
+        D12356 => R12356,
+        D456 => NOTHING,
+        D1456 => NOTHING,
+        D2456 => R2456,
+        D12456 => R12456,
+        D3456 => NOTHING,
+        D13456 => R13456,
+        D23456 => R23456,
+        D123456 => NOTHING,
+        _ => NOTHING,
     }
 }
 

@@ -11,14 +11,15 @@ use cells::D356;
 use cells::D456;
 ghost use mathlib.Core.Bool.{false};
 ghost use mathlib.Core.Path.{_≡_};
-ghost use Prim.Native.Nat.{_+_, _<_, _≤_};
+ghost use Prim.Native.Nat.{ℕ, _+_, _<_, _≤_};
 ghost use lib.ListN.{length};
 ghost use Rattle.rules.specs.Pairs.{kinds};
 ghost use Rattle.rules.specs.Refusals.{longestRow};
 ghost use Rattle.rules.proofs.Machine.{at-rest};
 ghost use Rattle.pairs.specs.Opened.{openStates};
-ghost use Rattle.signs.specs.Modes.{modeOf, modeCount};
-ghost use Rattle.signs.specs.Fields.{classIn, pointIn, capitalIn, figureIn, lowerIn, kindIn, thenIn, usualIn, deedOf, cellOf};
+ghost use Rattle.signs.specs.Modes.{modeOf, modeCount, owing, dash};
+ghost use Rattle.signs.specs.Fields.{classIn, pointIn, capitalIn, figureIn, lowerIn, kindIn, thenIn, usualIn, deedOf, runPoint, cellOf};
+ghost use Rattle.signs.specs.Runs.{noRun, runOf, afterRun, Quick};
 ghost use Rattle.signs.specs.Words.{wordOf};
 ghost use Rattle.signs.specs.Readings.{noPoint, usualBy, openerOf, closerOf, markStep, digitCell, stepOf, capitalBy, numberBy, percentBy, prefixBy, askedBy, stepAt};
 
@@ -43,7 +44,7 @@ pub const FREE: usize = 0;
 
 const LONE: usize = 1;
 
-const OWING: usize = 2;
+pub const OWING: usize = 2;
 
 const MIXED: usize = 3;
 
@@ -65,7 +66,7 @@ const END: usize = 11;
 
 const HYPHEN: usize = 12;
 
-const DASH: usize = 13;
+pub const DASH: usize = 13;
 
 const FEM: usize = 14;
 
@@ -177,6 +178,21 @@ const CLASS_AT: u64 = 72057594037927936;
 const CLASS_PLACES: u64 = 16;
 
 const THEN_AT: u64 = 1152921504606846976;
+
+// What a run asks of a cell: where its fields stand (cells.rt), and where the field of a run does; NO_RUN where the mode is in none.
+const RUN_FIGURE: u64 = 1;
+
+const RUN_CAPITAL: u64 = 65536;
+
+const RUN_LOWER: u64 = 4294967296;
+
+const FIGURES: usize = 0;
+
+const CAPITALS: usize = 16;
+
+const LOWERS: usize = 32;
+
+pub const NO_RUN: usize = 64;
 
 // How many classes a row of the table has room for.
 const TABLE_ROW: usize = 16;
@@ -539,6 +555,86 @@ pub fn sign_at(row: &[u8], at: usize, word: u64, mode: usize, opened: usize) -> 
         },
         _ => asked(row, at, word, deed, opened),
     }
+}
+
+// The run that a mode is in: more of its cells may follow, each one code point.
+pub fn run_of(mode: usize) -> usize
+    ensures { λ r. ⌜ r ≡ runOf mode ⌝ }
+{
+    match mode {
+        NUM => FIGURES,
+        MID => FIGURES,
+        UNDER1 => FIGURES,
+        UNDER => FIGURES,
+        WHOLE1 => CAPITALS,
+        WHOLE2 => CAPITALS,
+        LOW => LOWERS,
+        _ => NO_RUN,
+    }
+}
+
+// The mode behind cells of the run.
+pub fn after_run(mode: usize) -> usize
+    ensures { λ r. ⌜ r ≡ afterRun mode ⌝ }
+{
+    match mode {
+        MID => NUM,
+        UNDER1 => UNDER,
+        WHOLE1 => WHOLE2,
+        _ => mode,
+    }
+}
+
+// What a cell is in a run, or NO_POINT. (A run is below 64, so that the remainder is the run.)
+fn run_point(cell: u8, run: usize) -> u32
+    ensures { λ r. ⌜ r ≡ runPoint (wordOf cell) run ⌝ }
+{
+    ((cells::run_word(cell) >> (run % WORD_BITS)) % POINT_PLACES) as u32
+}
+
+// A quick reading of a cell of the run that the mode is in; `after` is the mode behind it.
+pub fn run_at(row: &[u8], at: usize, run: usize, after: usize, opened: usize) -> Step
+    requires { ⌜ (length (now row) ≤ longestRow) × (at < length (now row)) ⌝ }
+    ensures { λ r. ⌜ ((m : ℕ) → m < modeCount → run ≡ runOf m → run < noRun → after ≡ afterRun m → Quick (now (row .entry)) at m after opened r) ⌝ }
+{
+    let cell = row[at];
+    if LAST_CELL < cell {
+        return Step::Nothing;
+    }
+    let point = run_point(cell, run);
+    if point == NO_POINT {
+        return Step::Nothing;
+    }
+    sign(point, at + 1, after, opened)
+}
+
+// A quick reading of U+2014 behind another.
+pub fn dash_at(row: &[u8], at: usize, opened: usize) -> Step
+    requires { ⌜ (length (now row) ≤ longestRow) × (at < length (now row)) ⌝ }
+    ensures { λ r. ⌜ Quick (now (row .entry)) at dash dash opened r ⌝ }
+{
+    if cell_at(row, at) != D36 {
+        return Step::Nothing;
+    }
+    if cell_at(row, at + 1) != D36 {
+        return Step::Nothing;
+    }
+    sign(THE_DASH, at + 2, DASH, opened)
+}
+
+// A quick reading of a capital with its 46 behind another.
+pub fn owed_at(row: &[u8], at: usize, opened: usize) -> Step
+    requires { ⌜ (length (now row) ≤ longestRow) × (at < length (now row)) ⌝ }
+    ensures { λ r. ⌜ Quick (now (row .entry)) at owing owing opened r ⌝ }
+{
+    if cell_at(row, at) != D46 {
+        return Step::Nothing;
+    }
+    let letter = cells::capital_owed(cell_at(row, at + 1));
+    if letter == NO_POINT {
+        return Step::Nothing;
+    }
+    sign(letter, at + 2, OWING, opened)
 }
 
 // May a text end in this mode: is what was begun whole?

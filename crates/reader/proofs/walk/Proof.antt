@@ -3,7 +3,7 @@
 use mathlib.Core.Path.{_≡_, sym, _∙_}
 use mathlib.Core.List.{List}
 use mathlib.Core.Option.{none}
-use Prim.Native.Nat.{ℕ, _+_, _-_, _<_}
+use Prim.Native.Nat.{ℕ, _-_, _<_, zero-le}
 use native.Mathlib.Omega.{arith}
 use borrow.Author.Needs.{needs}
 use lib.ListN.{length, drop}
@@ -14,11 +14,12 @@ use Rattle.signs.specs.Left.{left}
 use Rattle.signs.specs.declared.Step.the-variants.{Nothing}
 use Rattle.signs.proofs.Cases.{word-there, as-usual, kind-known, no-cell}
 use Rattle.signs.proofs.Turning.{Turn, turn-of, none-left}
-use Rattle.reader.proofs.Walking.{Mid, mid-start, mid-few, mid-on, mid-nowhere, mid-end}
+use Rattle.reader.proofs.Walking.{Mid, mid-start, mid-few, mid-most, mid-on, mid-more, mid-nowhere, mid-end, runs-somewhere, runs-forward}
 use Rattle.reader.proofs.walk.Statement.{statement}
 use Rattle.reader.proofs.walk.Tie as tie
 use Rattle.reader.proofs.walk.Reads as reads
 use Rattle.reader.proofs.walk.Lts as lts
+use Rattle.reader.proofs.alike.Reads as alike-reads
 use Rattle.reader.proofs.put.Reads as put-reads
 use Rattle.signs.proofs.is_usual.Reads as is-usual-reads
 use Rattle.signs.proofs.sign_at.Reads as sign-at-reads
@@ -26,7 +27,7 @@ use Rattle.signs.proofs.usual.Reads as usual-reads
 use Rattle.signs.proofs.word_of.Reads as word-of-reads
 
 abbrev Inv-loop : tie.InvT-loop
-Inv-loop row from stop begun unclosed text₀ mode₀ opened₀ count₀ at₀ text mode opened count at = Mid row stop from begun unclosed text₀ text mode opened count at
+Inv-loop row from stop begun unclosed text₀ mode₀ opened₀ count₀ at₀ text mode opened count at = Mid row stop from begun unclosed 0 text₀ text mode opened count at
 
 abbrev μ-loop : tie.MeasureT-loop
 μ-loop row from stop begun unclosed text₀ mode₀ opened₀ count₀ at₀ text mode opened count at = length row - at
@@ -135,7 +136,7 @@ stuck i e =
 loop-holds : tie.Need-loop-holds Inv-loop μ-loop
 loop-holds c =
     let s = c .before .before in
-    mid-start (s .args .row .now) (s .args .stop) (s .args .from) (s .args .begun) (s .args .unclosed) (s .args .text .now) (s .pre .1) (s .pre .3) (s .pre .4)
+    mid-start (s .args .row .now) (s .args .stop) (s .args .from) (s .args .begun) (s .args .unclosed) 0 (s .args .text .now) (s .pre .1) (s .pre .3) (s .pre .4)
 
 shared-slice-read-cell : tie.Need-shared-slice-read-cell Inv-loop μ-loop
 shared-slice-read-cell c = inside (c .before)
@@ -180,7 +181,7 @@ returns-2 c =
     mid-nowhere (at-w w .loop .inv) (stuck (in-w w) (sym (as-read u) ∙ c .enum-told .given .1))
 
 put-requires : tie.Need-put-requires Inv-loop μ-loop
-put-requires c κs = let l = at-w (of-k (c .before)) in mid-few (l .loop .inv) (start l .pre .0)
+put-requires c κs = let l = at-w (of-k (c .before)) in mid-most (l .loop .inv) (start l .pre .0) zero-le
 
 loop-less : tie.Need-loop-less Inv-loop μ-loop
 loop-less c = let t = turn (c .before .before .before .before) in omega (arith, t .forward, t .within)
@@ -213,22 +214,74 @@ returns-3 c =
     mid-nowhere (at-w w .loop .inv) (stuck (in-w w) (sym (a .sign-at .ensures) ∙ c .enum-told2 .given .1))
 
 put-requires-2 : tie.Need-put-requires-2 Inv-loop μ-loop
-put-requires-2 c κs = let l = at-w (of-j (c .before)) in mid-few (l .loop .inv) (start l .pre .0)
+put-requires-2 c κs = let l = at-w (of-j (c .before)) in mid-most (l .loop .inv) (start l .pre .0) zero-le
+
+-- the sign is put, and what follows alike is read
+abbrev P : Type 0
+P = tie.After-put2 Inv-loop μ-loop
+
+abbrev j-of : P → J
+j-of p = p .before .before
+
+alike-requires : tie.Need-alike-requires Inv-loop μ-loop
+alike-requires c κs =
+    let p = c .before .before .before in
+    let k = j-of p in
+    let l = at-w (of-j k) in
+    let m = mid-on (l .loop .inv) (turn2 k) (in-w (of-j k) .loop-test .taken) (p .put2 .ensures) in
+    (start l .pre .0, m .leads .within, start l .pre .2, m .leads .mode, m .leads .opens, mid-few m zero-le)
+
+enum-known-at-last : tie.Need-enum-known-at-last Inv-loop μ-loop
+enum-known-at-last c = search needs
+
+enum-told-3 : tie.Need-enum-told-3 Inv-loop μ-loop
+enum-told-3 c = search needs
+
+-- they always come to a place
+somewhere : (c : tie.After-enum-told3 Inv-loop μ-loop) → ⊥
+somewhere c =
+    let a = c .before .before .before .before in
+    let k = j-of (a .before .before .before .before) in
+    let l = at-w (of-j k) in
+    runs-somewhere (row l) (start l .args .stop) (next2 k) (mode-after2 k) (opened-after2 k) _ _ (a .alike .ensures) (c .enum-told3 .given .1)
+
+same-length-4 : tie.Need-same-length-4 Inv-loop μ-loop
+same-length-4 c = absurd (somewhere c)
+
+returns-4 : tie.Need-returns-4 Inv-loop μ-loop
+returns-4 c = absurd (somewhere c)
+
+abbrev A : Type 0
+A = tie.After-known-told3 Inv-loop μ-loop
+
+abbrev a-of : A → tie.After-alike Inv-loop μ-loop
+a-of c = c .before .before .before .before .before
+
+abbrev p-of : A → P
+p-of c = a-of c .before .before .before .before
 
 loop-less-2 : tie.Need-loop-less-2 Inv-loop μ-loop
-loop-less-2 c = let t = turn2 (c .before .before .before .before) in omega (arith, t .forward, t .within)
+loop-less-2 c =
+    let p = p-of c in
+    let k = j-of p in
+    let t = turn2 k in
+    let m = mid-on (at-w (of-j k) .loop .inv) t (in-w (of-j k) .loop-test .taken) (p .put2 .ensures) in
+    let n = mid-more m (a-of c .alike .result) (a-of c .alike .ensures) (c .before .at-last .given .1) in
+    let l = at-w (of-j k) in
+    let f = runs-forward (row l) (start l .args .stop) (next2 k) (mode-after2 k) (opened-after2 k) (p .put2 .result) (a-of c .alike .result) (a-of c .alike .ensures) (c .before .at-last .given .1) in
+    omega (arith, t .forward, n .leads .within, f)
 
 loop-again-2 : tie.Need-loop-again-2 Inv-loop μ-loop
 loop-again-2 c =
-    let p = c .before .before in
-    let k = p .before .before in
-    mid-on (at-w (of-j k) .loop .inv) (turn2 k) (in-w (of-j k) .loop-test .taken) (p .put2 .ensures)
+    let p = p-of c in
+    let k = j-of p in
+    mid-more (mid-on (at-w (of-j k) .loop .inv) (turn2 k) (in-w (of-j k) .loop-test .taken) (p .put2 .ensures)) (a-of c .alike .result) (a-of c .alike .ensures) (c .before .at-last .given .1)
 
-same-length-4 : tie.Need-same-length-4 Inv-loop μ-loop
-same-length-4 c = c .before .loop .inv .wrote .0
+same-length-5 : tie.Need-same-length-5 Inv-loop μ-loop
+same-length-5 c = c .before .loop .inv .wrote .0
 
-returns-4 : tie.Need-returns-4 Inv-loop μ-loop
-returns-4 c = mid-end (c .before .loop .inv) (c .loop-test .left)
+returns-5 : tie.Need-returns-5 Inv-loop μ-loop
+returns-5 c = mid-end (c .before .loop .inv) (c .loop-test .left)
 
 pub walk-spec : {M : Type 1} → statement M
 walk-spec =
@@ -256,7 +309,12 @@ walk-spec =
     same-length-3
     returns-3
     put-requires-2
+    alike-requires
+    enum-known-at-last
+    enum-told-3
+    same-length-4
+    returns-4
     loop-less-2
     loop-again-2
-    same-length-4
-    returns-4)
+    same-length-5
+    returns-5)

@@ -1,0 +1,68 @@
+-- `owed_at`: 46 and a letter. Assumes nothing.
+use mathlib.Core.Logic.{inl, inr}
+use mathlib.Core.Path.{_≡_, refl, sym, ap, _∙_}
+use Prim.Native.Nat.{ℕ, _+_}
+use Rattle.rules.specs.Cells.{dots}
+use Rattle.signs.specs.Fields.{capitalIn}
+use Rattle.signs.specs.Words.{wordOf}
+use Rattle.signs.proofs.Cases.{owed-step}
+use borrow.Author.Needs.{needs}
+use Rattle.signs.proofs.owed_at.Statement.{statement}
+use Rattle.signs.proofs.owed_at.Tie as tie
+use Rattle.signs.proofs.owed_at.Reads as reads
+use Rattle.signs.proofs.owed_at.Lts as lts
+use Rattle.signs.proofs.cell_at.Reads as cell-at-reads
+use Rattle.signs.proofs.cells.capital_owed.Reads as capital-owed-reads
+use Rattle.signs.proofs.sign.Reads as sign-reads
+
+cell-at-requires : tie.Need-cell-at-requires
+cell-at-requires c κs = search needs
+
+returns : tie.Need-returns
+returns c = inl refl
+
+add-cell-at : tie.Need-add-cell-at
+add-cell-at c = search needs
+
+cell-at-requires-2 : tie.Need-cell-at-requires-2
+cell-at-requires-2 c κs = search needs
+
+capital-owed-requires : tie.Need-capital-owed-requires
+capital-owed-requires c κs = search needs
+
+returns-2 : tie.Need-returns-2
+returns-2 c = inl refl
+
+add-sign : tie.Need-add-sign
+add-sign c = search needs
+
+sign-requires : tie.Need-sign-requires
+sign-requires c κs = search needs
+
+returns-3 : tie.Need-returns-3
+unfolding dots
+returns-3 c =
+    let k = c .before .before in
+    let b = k .before in
+    let a = b .before .before in
+    let s = a .before .before in
+    inr (
+      c .sign .ensures
+          ∙ owed-step (s .args .row .now) (s .args .at) (s .args .opened) (k .capital-owed .result) (sym (a .cell-at .ensures) ∙ b .before .if1 .left)
+          (k .capital-owed .ensures ∙ ap (λ (y : ℕ). capitalIn (wordOf y)) (b .cell-at2 .ensures)) (c .before .if2 .left),
+      (k .capital-owed .result, s .args .at + 2, c .sign .ensures),
+    )
+
+pub owed-at-spec : {M : Type 1} → statement M
+owed-at-spec =
+    tie.close
+    (tie.spec
+    cell-at-requires
+    returns
+    add-cell-at
+    cell-at-requires-2
+    capital-owed-requires
+    returns-2
+    add-sign
+    sign-requires
+    returns-3)

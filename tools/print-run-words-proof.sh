@@ -1,0 +1,34 @@
+#!/bin/sh
+# prints: crates/signs/proofs/cells/run_word/Proof.antt
+#
+# The proof that the code's word of each cell for runs is what its word says: one need for each cell, and one for a byte that is
+# none. It depends on there being 64 cells and on nothing else.
+#
+# Nothing printed is trusted: the prover checks the proof.
+set -eu
+CDPATH='' cd "$(dirname "$0")/.."
+
+cat <<'TEXT'
+-- Printed by tools/print-run-words-proof.sh: change that.
+-- `cells::run_word`: at each cell antt computes both sides; a byte that is no cell has no word. Assumes nothing.
+use mathlib.Core.Path.{_≡_, refl, sym, ap, _∙_}
+use Prim.Native.Nat.{ℕ}
+use Rattle.entries.proofs.Places.{upto}
+use Rattle.signs.specs.Fields.{runIn}
+use Rattle.signs.specs.Words.{words, wordOf}
+use Rattle.signs.proofs.Cases.{no-word}
+use Rattle.signs.proofs.cells.run_word.Statement.{statement}
+use Rattle.signs.proofs.cells.run_word.Tie as tie
+
+other : tie.Need-returns-65
+unfolding upto
+other c = ap runIn (no-word (c .before .args .cell) (c .match .rest))
+
+pub run-word-spec : {M : Type 1} → statement M
+unfolding words
+run-word-spec =
+    tie.close
+    (tie.spec
+TEXT
+awk 'BEGIN { for (k = 1; k <= 64; k++) print "    (λ c. sym (ap (λ (n : ℕ). runIn (wordOf n)) (c .match .keys" k ")))" }'
+echo '    other)'
