@@ -158,13 +158,13 @@ pub runs-forward : (row : Row) (stop at m o n : ℕ) {t t' : List ℕ} (w : Walk
 runs-forward row stop at m o n w (runs-on ss j m' v d leads count wrote) {k} e = let f : j ≡ k = cc in omega (arith, leads .next-is, f)
 
 -- A QUICK READING that gives a sign is a turn
-pub quick-turn : (row : Row) (at m n o : ℕ) → at < length row → m < modeCount → o < openStates → (s : Step) → Quick row at m n o s
-    → (l p k n' u : ℕ) → s ≡ step.Sign l p k n' u → Turn row at m o l p k n o
-quick-turn row at m n o inside small few s (inl e) l p k n' u q = let z : _≡_ {A = ℕ} 0 1 = cc in absurd (omega arith)
-quick-turn row at m n o inside small few s (inr h) l p k n' u q =
-    let e : n' ≡ n = cc in
+pub quick-turn : (row : Row) (at m o : ℕ) → at < length row → m < modeCount → o < openStates → (s : Step) → Quick row at m o s
+    → (l p k n u : ℕ) → s ≡ step.Sign l p k n u → Turn row at m o l p k m o
+quick-turn row at m o inside small few s (inl e) l p k n u q = let z : _≡_ {A = ℕ} 0 1 = cc in absurd (omega arith)
+quick-turn row at m o inside small few s (inr h) l p k n u q =
+    let e : n ≡ m = cc in
     let f : u ≡ o = cc in
-    turn-of row at m o inside small few l p k n o (sym (h .0) ∙ q ∙ ap (λ (i : ℕ). step.Sign l p k i u) e ∙ ap (λ (i : ℕ). step.Sign l p k n i) f)
+    turn-of row at m o inside small few l p k m o (sym (h .0) ∙ q ∙ ap (λ (i : ℕ). step.Sign l p k i u) e ∙ ap (λ (i : ℕ). step.Sign l p k m i) f)
 
 pub adds-some : (ss xs : List Sign) → addSigns ss (some xs) ≡ some (ss ++ xs)
 adds-some [] xs = refl

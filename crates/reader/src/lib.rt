@@ -205,8 +205,6 @@ fn run(
     ensures { λ r. ⌜ Runs (now (row .entry)) stop from begun unclosed counted (now (text .entry)) (now (text .exit)) r ⌝ }
 {
     let field = signs::run_of(begun);
-    let after = signs::after_run(begun);
-    let mut mode: usize = begun;
     let mut at: usize = from;
     let mut count: usize = counted;
     while at < stop {
@@ -216,28 +214,27 @@ fn run(
             next,
             mode: _,
             opened: _,
-        } = signs::run_at(row, at, field, after, unclosed)
+        } = signs::run_at(row, at, field, begun, unclosed)
         else {
             return Walked::On {
                 at,
-                mode,
+                mode: begun,
                 opened: unclosed,
                 count,
             };
         };
         count = put(text, count, lead, point);
-        mode = after;
         at = next;
     }
     Walked::On {
         at,
-        mode,
+        mode: begun,
         opened: unclosed,
         count,
     }
 }
 
-// What follows alike, by the mode that the last sign left.
+// What follows alike, by the mode that the last sign found and left.
 fn alike(
     row: &[u8],
     from: usize,
@@ -317,19 +314,25 @@ fn walk(
                 return Walked::Nowhere;
             };
             count = put(text, count, lead, point);
-            let Walked::On {
-                at: at_last,
-                mode: mode_last,
-                opened: opened_last,
-                count: count_last,
-            } = alike(row, next, stop, mode_after, opened_after, text, count)
-            else {
-                return Walked::Nowhere;
-            };
-            count = count_last;
-            mode = mode_last;
-            opened = opened_last;
-            at = at_last;
+            if mode_after == mode {
+                let Walked::On {
+                    at: at_last,
+                    mode: mode_last,
+                    opened: opened_last,
+                    count: count_last,
+                } = alike(row, next, stop, mode_after, opened_after, text, count)
+                else {
+                    return Walked::Nowhere;
+                };
+                count = count_last;
+                mode = mode_last;
+                opened = opened_last;
+                at = at_last;
+            } else {
+                mode = mode_after;
+                opened = opened_after;
+                at = next;
+            }
         }
     }
     Walked::On {

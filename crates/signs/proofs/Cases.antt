@@ -26,7 +26,7 @@ use Rattle.signs.specs.Fields.{deedOf, classIn, pointIn, capitalIn, figu
 use Rattle.signs.specs.Words.{words, wordOf, twoOf}
 use Rattle.signs.specs.Readings.{noPoint, Reading, reads, aMark, one, usualBy, onceList, digitCell, capitalModes, capitalLetter, capitalBy, numberBy, percentBy, innerQuotes, longerBy, prefixBy, askList, askedBy, readingOf, byWord, openerOf, closerOf, markStep, stepOf, stepAt}
 use Rattle.signs.specs.Readings as reading
-use Rattle.signs.specs.Runs.{noRun, runOf, afterRun}
+use Rattle.signs.specs.Runs.{noRun, runOf}
 use Rattle.signs.specs.declared.Step.{Step}
 use Rattle.signs.specs.declared.Step.the-variants as variant
 use Rattle.signs.proofs.Settling.{is-true}
@@ -371,7 +371,7 @@ no-cell row at m o l h k = go (usualIn 0 m) refl (deedOf m (classIn 0)) refl (at
     go true e d f t = absurd t
     go false e d f t = sym (told-none row at m o 0 word-is e d (sym f) (eqb→eq d act.noSign t))
 
--- QUICK READINGS. In a run: what each cell is, and the mode behind it, are what the table says
+-- QUICK READINGS. In a run: what each cell is is what the table says, and the mode stays
 both : (a b : Bool) → T (a && b) → T a × T b
 both true b t = (tt, t)
 both false b t = absurd t
@@ -381,7 +381,7 @@ either true b t = inl tt
 either false b t = inr t
 
 abbrev told-as : ℕ → ℕ → ℕ → ℕ → ℕ → ℕ → Bool
-told-as d p m its-deed its-point its-mode = eqb d its-deed && (eqb p its-point && eqb (afterRun m) its-mode)
+told-as d p m its-deed its-point its-mode = eqb d its-deed && (eqb p its-point && eqb m its-mode)
 
 abbrev run-told : ℕ → ℕ → ℕ → Bool
 run-told m w p =
@@ -394,20 +394,8 @@ abbrev run-test : ℕ → ℕ → Bool
 run-test m w = leb noRun (runOf m) || (eqb (runPoint w (runOf m)) noPoint || (not (usualIn w m) && run-told m w (runPoint w (runOf m))))
 
 runs-right : T (below (λ x. below (λ m. run-test m (wordOf x)) modeCount) sights)
-unfolding deeds words runOf afterRun
+unfolding deeds words runOf
 runs-right = tt
-
--- a mode of a run, behind one of its cells, is in that run still
-stays-right : T (below (λ m. eqb (runOf (afterRun m)) (runOf m) && (eqb (afterRun (afterRun m)) (afterRun m) && ltb (afterRun m) modeCount)) modeCount)
-unfolding runOf afterRun
-stays-right = tt
-
-pub run-stays : (m : ℕ) → m < modeCount → (runOf (afterRun m) ≡ runOf m) × (afterRun (afterRun m) ≡ afterRun m)
-run-stays m l =
-    let t = at-below (λ m. eqb (runOf (afterRun m)) (runOf m) && (eqb (afterRun (afterRun m)) (afterRun m) && ltb (afterRun m) modeCount)) modeCount stays-right m l in
-    let a = both (eqb (runOf (afterRun m)) (runOf m)) (eqb (afterRun (afterRun m)) (afterRun m) && ltb (afterRun m) modeCount) t in
-    let b = both (eqb (afterRun (afterRun m)) (afterRun m)) (ltb (afterRun m) modeCount) (a .1) in
-    (eqb→eq (runOf (afterRun m)) (runOf m) (a .0), eqb→eq (afterRun (afterRun m)) (afterRun m) (b .0))
 
 module _ (row : Row) (at m o p run : ℕ) (small : m < modeCount) (inside : at < length row) (low : getD row at 0 ≤ lastCell) (is-run : run ≡ runOf m)
     (some-run : run < noRun) (is-point : p ≡ runPoint (wordOf (getD row at 0)) run) (a-point : p ≡ noPoint → ⊥) where
@@ -418,13 +406,13 @@ module _ (row : Row) (at m o p run : ℕ) (small : m < modeCount) (inside : at <
   point-is = is-point ∙ ap (λ (n : ℕ). runPoint (wordOf n) run) (cell-low row at inside low) ∙ ap (runPoint (wordOf (cellOf row at))) is-run
 
   is-told : (its-deed its-point its-mode : ℕ) → T (told-as (deedOf m (classIn (wordOf (cellOf row at)))) (runPoint (wordOf (cellOf row at)) (runOf m)) m its-deed its-point its-mode)
-      → (deedOf m (classIn (wordOf (cellOf row at))) ≡ its-deed) × (p ≡ its-point) × (afterRun m ≡ its-mode)
+      → (deedOf m (classIn (wordOf (cellOf row at))) ≡ its-deed) × (p ≡ its-point) × (m ≡ its-mode)
   is-told its-deed its-point its-mode t =
-      let a = both (eqb (deedOf m (classIn (wordOf (cellOf row at)))) its-deed) (eqb (runPoint (wordOf (cellOf row at)) (runOf m)) its-point && eqb (afterRun m) its-mode) t in
-      let b = both (eqb (runPoint (wordOf (cellOf row at)) (runOf m)) its-point) (eqb (afterRun m) its-mode) (a .1) in
-      (eqb→eq (deedOf m (classIn (wordOf (cellOf row at)))) its-deed (a .0), point-is ∙ eqb→eq (runPoint (wordOf (cellOf row at)) (runOf m)) its-point (b .0), eqb→eq (afterRun m) its-mode (b .1))
+      let a = both (eqb (deedOf m (classIn (wordOf (cellOf row at)))) its-deed) (eqb (runPoint (wordOf (cellOf row at)) (runOf m)) its-point && eqb m its-mode) t in
+      let b = both (eqb (runPoint (wordOf (cellOf row at)) (runOf m)) its-point) (eqb m its-mode) (a .1) in
+      (eqb→eq (deedOf m (classIn (wordOf (cellOf row at)))) its-deed (a .0), point-is ∙ eqb→eq (runPoint (wordOf (cellOf row at)) (runOf m)) its-point (b .0), eqb→eq m its-mode (b .1))
 
-  pub run-step : variant.Sign noPoint p (at + 1) (afterRun m) o ≡ stepAt row at m o
+  pub run-step : variant.Sign noPoint p (at + 1) m o ≡ stepAt row at m o
   run-step =
       ⊎-elim (λ t. absurd (omega (arith, leb-true noRun (runOf m) (is-true (leb noRun (runOf m)) t), is-run, some-run)))
       (λ t. ⊎-elim (λ k. absurd (a-point (point-is ∙ eqb→eq (runPoint w (runOf m)) noPoint k)))
@@ -433,7 +421,7 @@ module _ (row : Row) (at m o p run : ℕ) (small : m < modeCount) (inside : at <
       (either (leb noRun (runOf m)) (eqb (runPoint w (runOf m)) noPoint || (not (usualIn w m) && run-told m w (runPoint w (runOf m))))
       (at-below (λ m. run-test m w) modeCount (at-below (λ x. below (λ m. run-test m (wordOf x)) modeCount) sights runs-right (cellOf row at) (sight-small (getD row at noCell))) m small))
     where
-      mode-is : (k : ℕ) → afterRun m ≡ k → variant.Sign noPoint p (at + 1) (afterRun m) o ≡ variant.Sign noPoint p (at + 1) k o
+      mode-is : (k : ℕ) → m ≡ k → variant.Sign noPoint p (at + 1) m o ≡ variant.Sign noPoint p (at + 1) k o
       mode-is k e = ap (λ (n : ℕ). variant.Sign noPoint p (at + 1) n o) e
 
       not-usual : T (not (usualIn (wordOf (cellOf row at)) m)) → usualIn (wordOf (cellOf row at)) m ≡ false
@@ -450,7 +438,7 @@ module _ (row : Row) (at m o p run : ℕ) (small : m < modeCount) (inside : at <
       q = runPoint (wordOf (cellOf row at)) (runOf m)
 
       by-run : T (not (usualIn (wordOf (cellOf row at)) m)) × T (run-told m (wordOf (cellOf row at)) (runPoint (wordOf (cellOf row at)) (runOf m)))
-          → variant.Sign noPoint p (at + 1) (afterRun m) o ≡ stepAt row at m o
+          → variant.Sign noPoint p (at + 1) m o ≡ stepAt row at m o
       by-run (u, t) =
           ⊎-elim
           (λ k. let h = is-told act.digit (figureIn (wordOf (cellOf row at))) mode.num k in

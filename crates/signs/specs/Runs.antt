@@ -1,5 +1,4 @@
--- Signs that follow one another alike, so that a loop of its own may read them. In order: the run that a mode is in, and the mode behind its cells; what a
--- quick reading may answer. Assumes nothing.
+-- Signs that follow one another alike, so that a loop of its own may read them. In order: the run that a mode is in; what a quick reading may answer. Assumes nothing.
 use mathlib.Core.List.{List, [], _∷_}
 use mathlib.Core.Logic.{_⊎_}
 use mathlib.Core.Path.{_≡_}
@@ -27,10 +26,7 @@ noRun = 64
 abbrev pub runs : List (ℕ × ℕ)
 runs =
     (mode.num, figures)
-    ∷ (mode.mid, figures)
-    ∷ (mode.under1, figures)
     ∷ (mode.under, figures)
-    ∷ (mode.whole1, capitals)
     ∷ (mode.whole2, capitals)
     ∷ (mode.low, lowers)
     ∷ []
@@ -38,12 +34,6 @@ runs =
 unfoldable pub runOf : ℕ → ℕ
 runOf m = choose runs m noRun
 
-abbrev pub goesOn : List (ℕ × ℕ)
-goesOn = (mode.mid, mode.num) ∷ (mode.under1, mode.under) ∷ (mode.whole1, mode.whole2) ∷ []
-
-unfoldable pub afterRun : ℕ → ℕ
-afterRun m = choose goesOn m m
-
--- A QUICK READING: nothing, which says nothing, or what the step is; then the sign leaves this mode, and the pairs as they are
-abbrev pub Quick : Row → ℕ → ℕ → ℕ → ℕ → Step → Type 0
-Quick row at m n o s = (s ≡ step.Nothing) ⊎ ((s ≡ stepAt row at m o) × ((p : ℕ) × (k : ℕ) × (s ≡ step.Sign noPoint p k n o)))
+-- A QUICK READING: nothing, which says nothing, or what the step is; then the sign leaves the mode and the pairs as they are
+abbrev pub Quick : Row → ℕ → ℕ → ℕ → Step → Type 0
+Quick row at m o s = (s ≡ step.Nothing) ⊎ ((s ≡ stepAt row at m o) × ((p : ℕ) × (k : ℕ) × (s ≡ step.Sign noPoint p k m o)))

@@ -19,7 +19,7 @@ ghost use Rattle.rules.proofs.Machine.{at-rest};
 ghost use Rattle.pairs.specs.Opened.{openStates};
 ghost use Rattle.signs.specs.Modes.{modeOf, modeCount, owing, dash};
 ghost use Rattle.signs.specs.Fields.{classIn, pointIn, capitalIn, figureIn, lowerIn, kindIn, thenIn, usualIn, deedOf, runPoint, cellOf};
-ghost use Rattle.signs.specs.Runs.{noRun, runOf, afterRun, Quick};
+ghost use Rattle.signs.specs.Runs.{noRun, runOf, Quick};
 ghost use Rattle.signs.specs.Words.{wordOf};
 ghost use Rattle.signs.specs.Readings.{noPoint, usualBy, openerOf, closerOf, markStep, digitCell, stepOf, capitalBy, numberBy, percentBy, prefixBy, askedBy, stepAt};
 
@@ -557,31 +557,16 @@ pub fn sign_at(row: &[u8], at: usize, word: u64, mode: usize, opened: usize) -> 
     }
 }
 
-// The run that a mode is in: more of its cells may follow, each one code point.
+// The run that a mode is in: more of its cells may follow, each one code point, and the mode stays.
 pub fn run_of(mode: usize) -> usize
     ensures { λ r. ⌜ r ≡ runOf mode ⌝ }
 {
     match mode {
         NUM => FIGURES,
-        MID => FIGURES,
-        UNDER1 => FIGURES,
         UNDER => FIGURES,
-        WHOLE1 => CAPITALS,
         WHOLE2 => CAPITALS,
         LOW => LOWERS,
         _ => NO_RUN,
-    }
-}
-
-// The mode behind cells of the run.
-pub fn after_run(mode: usize) -> usize
-    ensures { λ r. ⌜ r ≡ afterRun mode ⌝ }
-{
-    match mode {
-        MID => NUM,
-        UNDER1 => UNDER,
-        WHOLE1 => WHOLE2,
-        _ => mode,
     }
 }
 
@@ -592,10 +577,10 @@ fn run_point(cell: u8, run: usize) -> u32
     ((cells::run_word(cell) >> (run % WORD_BITS)) % POINT_PLACES) as u32
 }
 
-// A quick reading of a cell of the run that the mode is in; `after` is the mode behind it.
-pub fn run_at(row: &[u8], at: usize, run: usize, after: usize, opened: usize) -> Step
-    requires { ⌜ (length (now row) ≤ longestRow) × (at < length (now row)) ⌝ }
-    ensures { λ r. ⌜ ((m : ℕ) → m < modeCount → run ≡ runOf m → run < noRun → after ≡ afterRun m → Quick (now (row .entry)) at m after opened r) ⌝ }
+// A quick reading of a cell of the run that the mode is in.
+pub fn run_at(row: &[u8], at: usize, run: usize, mode: usize, opened: usize) -> Step
+    requires { ⌜ (length (now row) ≤ longestRow) × (at < length (now row)) × (mode < modeCount) × (run ≡ runOf mode) × (run < noRun) ⌝ }
+    ensures { λ r. ⌜ Quick (now (row .entry)) at mode opened r ⌝ }
 {
     let cell = row[at];
     if LAST_CELL < cell {
@@ -605,13 +590,13 @@ pub fn run_at(row: &[u8], at: usize, run: usize, after: usize, opened: usize) ->
     if point == NO_POINT {
         return Step::Nothing;
     }
-    sign(point, at + 1, after, opened)
+    sign(point, at + 1, mode, opened)
 }
 
 // A quick reading of U+2014 behind another.
 pub fn dash_at(row: &[u8], at: usize, opened: usize) -> Step
     requires { ⌜ (length (now row) ≤ longestRow) × (at < length (now row)) ⌝ }
-    ensures { λ r. ⌜ Quick (now (row .entry)) at dash dash opened r ⌝ }
+    ensures { λ r. ⌜ Quick (now (row .entry)) at dash opened r ⌝ }
 {
     if cell_at(row, at) != D36 {
         return Step::Nothing;
@@ -625,7 +610,7 @@ pub fn dash_at(row: &[u8], at: usize, opened: usize) -> Step
 // A quick reading of a capital with its 46 behind another.
 pub fn owed_at(row: &[u8], at: usize, opened: usize) -> Step
     requires { ⌜ (length (now row) ≤ longestRow) × (at < length (now row)) ⌝ }
-    ensures { λ r. ⌜ Quick (now (row .entry)) at owing owing opened r ⌝ }
+    ensures { λ r. ⌜ Quick (now (row .entry)) at owing opened r ⌝ }
 {
     if cell_at(row, at) != D46 {
         return Step::Nothing;

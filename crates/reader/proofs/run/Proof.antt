@@ -1,13 +1,10 @@
--- `run`: each sign is a turn of the walk (`Mid`), and the mode is in the run still. The measure is what is left of the row. Assumes nothing.
-use mathlib.Core.Path.{_≡_, sym, ap, _∙_}
+-- `run`: each sign is a turn of the walk, in the mode of the run (`Mid`). The measure is what is left of the row. Assumes nothing.
 use mathlib.Core.List.{List}
 use Prim.Native.Nat.{ℕ, _-_, _<_}
 use native.Mathlib.Omega.{arith}
 use borrow.Author.Needs.{needs}
 use lib.ListN.{length}
-use Rattle.signs.specs.Modes.{modeCount}
-use Rattle.signs.specs.Runs.{noRun, runOf, afterRun}
-use Rattle.signs.proofs.Cases.{run-stays}
+use Rattle.signs.specs.Runs.{noRun}
 use Rattle.signs.proofs.Turning.{Turn}
 use Rattle.reader.proofs.Walking.{Mid, mid-start, mid-most, mid-on, mid-runs, quick-turn}
 use Rattle.reader.proofs.run.Statement.{statement}
@@ -15,27 +12,21 @@ use Rattle.reader.proofs.run.Tie as tie
 use Rattle.reader.proofs.run.Reads as reads
 use Rattle.reader.proofs.run.Lts as lts
 use Rattle.reader.proofs.put.Reads as put-reads
-use Rattle.signs.proofs.after_run.Reads as after-run-reads
 use Rattle.signs.proofs.run_at.Reads as run-at-reads
 use Rattle.signs.proofs.run_of.Reads as run-of-reads
 
--- what is known of the mode: its run, and the mode behind cells of it
-abbrev Still : ℕ → ℕ → ℕ → Type 0
-Still field after mode = (field ≡ runOf mode) × (after ≡ afterRun mode)
-
 abbrev Inv-loop : tie.InvT-loop
-Inv-loop row from stop begun unclosed text₀ counted field after mode₀ at₀ count₀ text mode at count =
-    Mid row stop from begun unclosed counted text₀ text mode unclosed count at × Still field after mode
+Inv-loop row from stop begun unclosed text₀ counted field at₀ count₀ text at count = Mid row stop from begun unclosed counted text₀ text begun unclosed count at
 
 abbrev μ-loop : tie.MeasureT-loop
-μ-loop row from stop begun unclosed text₀ counted field after mode₀ at₀ count₀ text mode at count = length row - at
+μ-loop row from stop begun unclosed text₀ counted field at₀ count₀ text at count = length row - at
 
 -- THE PLACES: a turn begins; the sign is known
 abbrev I : Type 0
 I = tie.In-loop Inv-loop μ-loop
 
 abbrev start : I → tie.Start Inv-loop μ-loop
-start i = i .before .before .before .before .before .before
+start i = i .before .before .before .before .before
 
 abbrev row : I → List ℕ
 row i = start i .args .row .now
@@ -49,31 +40,25 @@ K = tie.After-known-told Inv-loop μ-loop
 abbrev in-k : K → I
 in-k k = k .before .before .before .before
 
-in-a-run : (i : I) → i .before .before .before .run-of .result < noRun
-in-a-run i = omega (arith, i .before .before .before .run-of .ensures, start i .pre .6)
-
 turn : (k : K) → let i = in-k k in
-    Turn (row i) (i .before .loop .at) (i .before .loop .mode) (start i .args .unclosed) (k .before .lead .given .0 .0) (k .before .lead .given .0 .1 .0) (k .before .lead .given .0 .1 .1 .0) (i .before .before .after-run .result) (start i .args .unclosed)
+    Turn (row i) (i .before .loop .at) (start i .args .begun) (start i .args .unclosed) (k .before .lead .given .0 .0) (k .before .lead .given .0 .1 .0) (k .before .lead .given .0 .1 .1 .0) (start i .args .begun) (start i .args .unclosed)
 turn k =
     let i = in-k k in
-    let l = i .before in
-    let m = l .loop .mode in
-    quick-turn (row i) (l .loop .at) m (l .before .after-run .result) (start i .args .unclosed) (inside i) (l .loop .inv .0 .leads .mode) (l .loop .inv .0 .leads .opens) _
-    (k .before .before .before .run-at .ensures m (l .loop .inv .0 .leads .mode) (l .loop .inv .1 .0) (in-a-run i) (l .loop .inv .1 .1)) _ _ _ _ _ (k .before .lead .given .1)
+    quick-turn (row i) (i .before .loop .at) (start i .args .begun) (start i .args .unclosed) (inside i) (i .before .loop .inv .leads .mode) (i .before .loop .inv .leads .opens) _
+    (k .before .before .before .run-at .ensures) _ _ _ _ _ (k .before .lead .given .1)
 
 run-of-requires : tie.Need-run-of-requires Inv-loop μ-loop
 run-of-requires c κs = search needs
 
-after-run-requires : tie.Need-after-run-requires Inv-loop μ-loop
-after-run-requires c κs = search needs
-
 loop-holds : tie.Need-loop-holds Inv-loop μ-loop
 loop-holds c =
-    let s = c .before .before .before .before in
-    (mid-start (s .args .row .now) (s .args .stop) (s .args .from) (s .args .begun) (s .args .unclosed) (s .args .counted) (s .args .text .now) (s .pre .1) (s .pre .3) (s .pre .4), (c .before .run-of .ensures, c .after-run .ensures))
+    let s = c .before .before .before in
+    mid-start (s .args .row .now) (s .args .stop) (s .args .from) (s .args .begun) (s .args .unclosed) (s .args .counted) (s .args .text .now) (s .pre .1) (s .pre .3) (s .pre .4)
 
 run-at-requires : tie.Need-run-at-requires Inv-loop μ-loop
-run-at-requires c κs = (start c .pre .0, inside c)
+run-at-requires c κs =
+    let o = c .before .before in
+    (start c .pre .0, inside c, start c .pre .3, o .run-of .ensures, omega (arith, o .run-of .ensures, start c .pre .6))
 
 enum-known-lead : tie.Need-enum-known-lead Inv-loop μ-loop
 enum-known-lead c = search needs
@@ -82,13 +67,13 @@ enum-told : tie.Need-enum-told Inv-loop μ-loop
 enum-told c = search needs
 
 same-length : tie.Need-same-length Inv-loop μ-loop
-same-length c = c .before .before .before .before .loop .inv .0 .wrote .0
+same-length c = c .before .before .before .before .loop .inv .wrote .0
 
 returns : tie.Need-returns Inv-loop μ-loop
-returns c = mid-runs (c .before .before .before .before .loop .inv .0)
+returns c = mid-runs (c .before .before .before .before .loop .inv)
 
 put-requires : tie.Need-put-requires Inv-loop μ-loop
-put-requires c κs = let i = in-k (c .before) in mid-most (i .before .loop .inv .0) (start i .pre .0) (start i .pre .5)
+put-requires c κs = let i = in-k (c .before) in mid-most (i .before .loop .inv) (start i .pre .0) (start i .pre .5)
 
 loop-less : tie.Need-loop-less Inv-loop μ-loop
 loop-less c = let t = turn (c .before .before .before .before) in omega (arith, t .forward, t .within)
@@ -97,18 +82,13 @@ loop-again : tie.Need-loop-again Inv-loop μ-loop
 loop-again c =
     let p = c .before .before in
     let k = p .before .before in
-    let l = in-k k .before in
-    let m = l .loop .mode in
-    let still = run-stays m (l .loop .inv .0 .leads .mode) in (
-      mid-on (l .loop .inv .0) (turn k) (in-k k .loop-test .taken) (p .put .ensures),
-      (l .loop .inv .1 .0 ∙ sym (still .0) ∙ ap runOf (sym (l .loop .inv .1 .1)), l .loop .inv .1 .1 ∙ sym (still .1) ∙ ap afterRun (sym (l .loop .inv .1 .1))),
-    )
+    mid-on (in-k k .before .loop .inv) (turn k) (in-k k .loop-test .taken) (p .put .ensures)
 
 same-length-2 : tie.Need-same-length-2 Inv-loop μ-loop
-same-length-2 c = c .before .loop .inv .0 .wrote .0
+same-length-2 c = c .before .loop .inv .wrote .0
 
 returns-2 : tie.Need-returns-2 Inv-loop μ-loop
-returns-2 c = mid-runs (c .before .loop .inv .0)
+returns-2 c = mid-runs (c .before .loop .inv)
 
 pub run-spec : {M : Type 1} → statement M
 run-spec =
@@ -117,7 +97,6 @@ run-spec =
     Inv-loop
     μ-loop
     run-of-requires
-    after-run-requires
     loop-holds
     run-at-requires
     enum-known-lead

@@ -1,9 +1,7 @@
 -- `run_at`: a cell that has the run's field is read as the table says (`run-step`). Assumes nothing.
 use mathlib.Core.Logic.{inl, inr}
-use mathlib.Core.Path.{refl, sym, ap, _∙_}
-use Prim.Native.Nat.{ℕ, _+_}
-use Rattle.signs.specs.Readings.{noPoint}
-use Rattle.signs.specs.declared.Step.the-variants as variant
+use mathlib.Core.Path.{refl, _∙_}
+use Prim.Native.Nat.{_+_}
 use Rattle.signs.proofs.Cases.{run-step}
 use borrow.Author.Needs.{needs}
 use Rattle.signs.proofs.run_at.Statement.{statement}
@@ -17,13 +15,13 @@ shared-slice-read-cell : tie.Need-shared-slice-read-cell
 shared-slice-read-cell c = search needs
 
 returns : tie.Need-returns
-returns c = λ m l e f g. inl refl
+returns c = inl refl
 
 run-point-requires : tie.Need-run-point-requires
 run-point-requires c κs = search needs
 
 returns-2 : tie.Need-returns-2
-returns-2 c = λ m l e f g. inl refl
+returns-2 c = inl refl
 
 add-sign : tie.Need-add-sign
 add-sign c = search needs
@@ -36,11 +34,9 @@ returns-3 c =
     let k = c .before in
     let p = k .before in
     let s = p .before .before .before .before in
-    λ m l e f g.
     inr (
       c .sign .ensures
-          ∙ ap (λ (n : ℕ). variant.Sign noPoint (p .run-point .result) (s .args .at + 1) n (s .args .opened)) g
-          ∙ run-step (s .args .row .now) (s .args .at) m (s .args .opened) (p .run-point .result) (s .args .run) l (s .pre .1) (p .before .if1 .left) e f (p .run-point .ensures) (k .if2 .left),
+          ∙ run-step (s .args .row .now) (s .args .at) (s .args .mode) (s .args .opened) (p .run-point .result) (s .args .run) (s .pre .2) (s .pre .1) (p .before .if1 .left) (s .pre .3) (s .pre .4) (p .run-point .ensures) (k .if2 .left),
       (p .run-point .result, s .args .at + 1, c .sign .ensures),
     )
 
