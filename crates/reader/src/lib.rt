@@ -109,7 +109,8 @@ fn put(text: &mut [u32], count: usize, lead: u32, point: u32) -> usize
     next
 }
 
-// U+2014 behind another: as many as follow. (This and the next two read what `walk` would, with less to ask at each sign.)
+// U+2014 behind another: as many as follow, behind the code points that are counted. (This and the next two read what `walk` would, with less to ask at each
+// sign.)
 fn dashes(
     row: &[u8],
     from: usize,
@@ -264,8 +265,9 @@ fn alike(
     }
 }
 
-// "each step gives the print of the next sign and the place after it." From a place, where a sign starts, and what the signs before it leave, as long as the
-// next sign starts before the place `stop`. Their print is written from the first element on, if there is room.
+// "each step gives the print of the next sign and the place after it." From a place, where a sign starts, with what the signs before it leave (`begun` is the
+// mode, `unclosed` are the open pairs), as long as the next sign starts before the place `stop`. Their print is written from the first element on, if there
+// is room. A sign that leaves the mode as it found it may be one of many: those that follow alike are read at once.
 fn walk(
     row: &[u8],
     from: usize,

@@ -1,5 +1,6 @@
 // The inner step of reading: the sign that starts at a place of a row, from the mode and the open pairs that the signs before it leave. Most cells are read
-// as usual, as their small letter or their sign; where the mode asks for another reading, the table says which (tools/readings.txt).
+// as usual (`usual`), as their small letter, their sign or their pair mark; where the mode asks for another reading (`sign_at`), the table says which
+// (tools/readings.txt). Signs that follow one another alike have quick readings besides (`run_at`, `dash_at`, `owed_at`).
 // A new sign is a line of crates/rules/specs/Castilian.antt, printed again; a new mode, deed or class is added in tools/readings.txt, and as a constant here
 // and in specs/; a new pair kind is also an arm of `opener_of` and of `closer_of`.
 use cells::D2;
