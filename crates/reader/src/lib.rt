@@ -409,12 +409,13 @@ pub fn read(row: &[u8], text: &mut [u32]) -> Answer
     if LONGEST_ROW < row.len() {
         return Answer::TooLong(reported_length(row.len()));
     }
+    let walked = walk(row, 0, row.len(), FREE, 0, &mut text[..0]);
     let Walked::On {
         at: _,
         mode,
         opened,
         count,
-    } = walk(row, 0, row.len(), FREE, 0, &mut text[..0])
+    } = walked
     else {
         return unread(row);
     };

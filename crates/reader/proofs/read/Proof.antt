@@ -50,16 +50,16 @@ abbrev start : K → tie.Start
 start k = at-e (from-w (from-k k))
 
 abbrev at : K → ℕ
-at k = k .before .mode .given .0 .0
+at k = k .before .walked .given .0 .0
 
 abbrev mode : K → ℕ
-mode k = k .before .mode .given .0 .1 .0
+mode k = k .before .walked .given .0 .1 .0
 
 abbrev opened : K → ℕ
-opened k = k .before .mode .given .0 .1 .1 .0
+opened k = k .before .walked .given .0 .1 .1 .0
 
 abbrev count : K → ℕ
-count k = k .before .mode .given .0 .1 .1 .1 .0
+count k = k .before .walked .given .0 .1 .1 .1 .0
 
 -- what is lent for the first walk is nothing, and so is what comes back
 same-text : {back : List ℕ} (t : List ℕ) → back ≡ [] → back ++ t ≡ t
@@ -82,8 +82,8 @@ slice-aggregate-walk c = search needs
 walk-requires : tie.Need-walk-requires
 walk-requires c κs = search needs
 
-enum-known-mode : tie.Need-enum-known-mode
-enum-known-mode c = search needs
+enum-known-walked : tie.Need-enum-known-walked
+enum-known-walked c = search needs
 
 enum-told : tie.Need-enum-told
 enum-told c = search needs
@@ -92,7 +92,7 @@ enum-told c = search needs
 gone : (k : K) → Went (row (start k)) (length (row (start k))) 0 0 0 (at k) (mode k) (opened k) (count k)
 gone k =
     let w = from-k k in
-    went (row (start k)) (length (row (start k))) 0 0 0 (w .walk .result) (at k) (mode k) (opened k) (count k) (w .walk .ensures) (k .before .mode .given .1) .0
+    went (row (start k)) (length (row (start k))) 0 0 0 (w .walk .result) (at k) (mode k) (opened k) (count k) (w .walk .ensures) (k .before .walked .given .1) .0
 
 unread-requires : tie.Need-unread-requires
 unread-requires c κs =
@@ -179,7 +179,7 @@ read-spec =
     slice-relend-prefix-walk
     slice-aggregate-walk
     walk-requires
-    enum-known-mode
+    enum-known-walked
     enum-told
     unread-requires
     same-length-1
