@@ -1,0 +1,5 @@
+pub mod Ends
+pub mod Lines
+pub mod Held
+pub mod Chunks
+pub mod Claims

@@ -1,0 +1,4 @@
+pub mod Lines
+pub mod Held
+pub mod Chunks
+pub mod Claims
