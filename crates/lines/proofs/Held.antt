@@ -1,16 +1,19 @@
 -- A part put behind what a room holds, and the turns of `take_in`. A part put in after another is the two put in at once (`keeps-on`); so what is taken in from
 -- a place is the byte there and what is taken in from the next (`takes-byte`). Assumes nothing.
-use mathlib.Core.Bool.{true, false}
+use mathlib.Core.Bool.{Bool, true, false}
 use mathlib.Core.List.{List, [], _∷_, _++_, append-assoc, append-nil}
-use mathlib.Core.Logic.{⊎-elim}
+use mathlib.Core.Logic.{⊎-elim, _↔_}
 use mathlib.Core.Path.{_≡_, refl, sym, ap, _∙_}
 use Prim.Native.Nat.{ℕ, zero, suc, _+_, _≤_, _<_, min, max}
 use native.Mathlib.Numerals.{add-one}
 use native.Mathlib.Omega.{arith}
+use lib.Dec.{ltb}
+use borrow.Author.Tests.{ltb-true, ltb-false, lt-ltb, le-ltb}
 use lib.ListN.{length, take, drop, set, getD, length-append, length-take, length-drop, take-append-drop, drop-of-length-le}
-use lib.Seq.{take-length, take-all, drop-cons, set-out}
+use lib.Seq.{take-length, take-take, take-at, drop-cons, set-out}
+use Rattle.rows.specs.Laid.{laid}
 use Rattle.lines.specs.Lines.{lineEnd}
-use Rattle.lines.specs.Held.{partOf, endsIn, passed, heldBy, filled, Keeps, TakesIn, Moves}
+use Rattle.lines.specs.Held.{partOf, endsIn, passed, heldBy, filled, Keeps, TakesIn, Moves, Holds, isLong}
 use Rattle.lines.specs.declared.Taken.{Taken}
 use Rattle.lines.proofs.Ends.{end-or-not, part-end, ends-end, passed-end, part-on, ends-on, passed-on}
 
@@ -112,3 +115,47 @@ module _ (bytes : List ℕ) (from : ℕ) (room : List ℕ) (held : ℕ) (t : Tak
         within = omega (arith, p .next);
         same = keeps-length room held (partOf (drop from bytes)) (t .held) new (p .keeps);
       }
+
+-- ONE OUTCOME
+pub taken-same :
+    (bytes : List ℕ) (from : ℕ) (room : List ℕ) (held : ℕ) (t u : Taken) (new old : List ℕ)
+    → TakesIn bytes from room held t new → TakesIn bytes from room held u old → (t ≡ u) × (new ≡ old)
+taken-same bytes from room held t u new old p q =
+    let next : t .next ≡ u .next = p .next ∙ sym (q .next) in
+    let ended : t .ended ≡ u .ended = p .ended ∙ sym (q .ended) in
+    let count : t .held ≡ u .held = p .keeps .count ∙ sym (q .keeps .count) in
+    (λ i. record { next = next i; held = count i; ended = ended i }, p .keeps .stored ∙ sym (q .keeps .stored))
+
+-- WHAT A ROOM SHOWS
+pub holds-none : (room : List ℕ) → Holds [] room 0
+holds-none room = record { count = omega arith; front = λ h. refl }
+
+pub holds-part : (line room part new : List ℕ) (held h : ℕ) → Holds line room held → Keeps room held part h new → Holds (line ++ part) new h
+holds-part line room part new held h p q =
+    let size = length-append line part in
+    let same = keeps-length room held part h new q in
+    record {
+      count = omega (arith, p .count, q .count);
+      front = λ few.
+          let short : length line ≤ length room = omega arith in
+          let all : length line ≡ held = omega (arith, p .count) in
+          let now : length (line ++ part) ≡ h = omega (arith, p .count, q .count) in
+          let behind = drop (length part) (drop held room) in
+          let shown : filled room held part ≡ take (length room) (line ++ part ++ behind) =
+          ap (λ (l : List ℕ). take (length room) (l ++ laid part (drop held room))) (p .front short) ∙ ap (take (length room)) (sym (append-assoc line part behind)) in
+          ap (take h) (q .stored ∙ shown) ∙ take-take h (length room) (line ++ part ++ behind) (omega arith) ∙ take-at (line ++ part) behind h now;
+    }
+
+pub long-same : (line room : List ℕ) (held : ℕ) → Holds line room held → isLong room held ≡ ltb (length room) (length line)
+long-same line room held p = go (ltb (length room) held) refl
+  where
+    go : (b : Bool) → ltb (length room) held ≡ b → b ≡ ltb (length room) (length line)
+    go true e = sym (lt-ltb (length room) (length line) (omega (arith, p .count, ltb-true (length room) held e)))
+    go false e = sym (le-ltb (length room) (length line) (omega (arith, p .count, ltb-false (length room) held e)))
+
+pub held-line : (line room : List ℕ) (held : ℕ) → Holds line room held → isLong room held ≡ false → take held room ≡ line
+held-line line room held p e = p .front (omega (arith, p .count, ltb-false (length room) held e))
+
+pub held-empty : (line room : List ℕ) (held : ℕ) → Holds line room held → (held ≡ 0) ↔ (line ≡ [])
+held-empty [] room held p = (λ e. refl, λ e. omega (arith, p .count))
+held-empty (b ∷ line) room held p = (λ e. absurd (omega (arith, p .count)), λ e. omega (arith, p .count, ap length e))
