@@ -1,17 +1,17 @@
 -- An input by chunks. A chunk in front of other bytes has the lines that end in it, and then those of what it leaves unfinished and the rest (`lines-append`);
 -- so the division into chunks does not matter. A chunk is cut at its first line end, or not at all (`cut-ended`, `cut-left`): so a call of `take_in` is one
 -- cut of it. Assumes nothing.
-use mathlib.Core.Bool.{Bool, true, false}
+use mathlib.Core.Bool.{true, false}
 use mathlib.Core.List.{List, [], _∷_, _++_, append-assoc, append-nil}
 use mathlib.Core.Logic.{⊎-elim}
-use mathlib.Core.Path.{_≡_, refl, sym, ap, _∙_}
+use mathlib.Core.Path.{_≡_, refl, sym, _∙_}
 use Prim.Native.Nat.{ℕ, _+_}
 use native.Mathlib.Omega.{arith}
 use lib.ListN.{length, drop, drop-of-length-le}
 use lib.Seq.{drop-drop}
 use Rattle.lines.specs.Lines.{linesFrom}
 use Rattle.lines.specs.Held.{partOf, endsIn, passed, TakesIn}
-use Rattle.lines.specs.Chunks.{Cut, addLine, cutAll, linesByChunks, joined}
+use Rattle.lines.specs.Chunks.{addLine, cutAll, linesByChunks, joined}
 use Rattle.lines.specs.declared.Taken.{Taken}
 use Rattle.lines.proofs.Ends.{end-or-not, lines-end, cut-end, part-end, ends-end, passed-end, lines-on, cut-on, part-on, ends-on, passed-on}
 
@@ -37,8 +37,8 @@ cut-ended (b ∷ bs) s h =
     ⊎-elim
     (λ e. rw (cut-end b bs e s, passed-end b bs e, part-end b bs e, append-nil))
     (λ n.
-        rw (cut-on b bs n s, passed-on b bs n, part-on b bs n)
-        (rw append-assoc at (cut-ended bs (s ++ b ∷ []) (sym (ends-on b bs n) ∙ h))))
+    rw (cut-on b bs n s, passed-on b bs n, part-on b bs n)
+    (rw append-assoc at (cut-ended bs (s ++ b ∷ []) (sym (ends-on b bs n) ∙ h))))
     (end-or-not b)
 
 -- no line end: all is passed, and left

@@ -1,7 +1,6 @@
 -- The claims of specs/Claims.antt, each by laws of the file that is named as its definitions are. Assumes nothing.
-use mathlib.Core.List.{List, [], _++_}
-use mathlib.Core.Path.{_≡_, sym, ap, _∙_}
-use Prim.Native.Nat.{ℕ}
+use mathlib.Core.List.{[]}
+use mathlib.Core.Path.{sym, _∙_}
 use lib.ListN.{drop}
 use Rattle.lines.specs.Held.{partOf}
 use Rattle.lines.specs.Claims.{LinesAreLines, OneCutting, OneTaken, HoldsNothing, HoldsOn, LongExactly, HeldIsTheLine, EmptyExactly, ChunksDoNotMatter, TurnEndsLine, TurnLeavesLine}

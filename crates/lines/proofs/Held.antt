@@ -1,10 +1,10 @@
 -- A part put behind what a room holds, and the turns of `take_in`. A part put in after another is the two put in at once (`keeps-on`); so what is taken in from
 -- a place is the byte there and what is taken in from the next (`takes-byte`). Assumes nothing.
 use mathlib.Core.Bool.{Bool, true, false}
-use mathlib.Core.List.{List, [], _∷_, _++_, append-assoc, append-nil}
+use mathlib.Core.List.{List, [], _∷_, _++_, append-assoc}
 use mathlib.Core.Logic.{⊎-elim, _↔_}
 use mathlib.Core.Path.{_≡_, refl, sym, ap, _∙_}
-use Prim.Native.Nat.{ℕ, zero, suc, _+_, _≤_, _<_, min, max}
+use Prim.Native.Nat.{ℕ, zero, suc, _+_, _≤_, _<_, min}
 use native.Mathlib.Numerals.{add-one}
 use native.Mathlib.Omega.{arith}
 use lib.Dec.{ltb}
@@ -13,7 +13,7 @@ use lib.ListN.{length, take, drop, set, getD, length-append, length-take, length
 use lib.Seq.{take-length, take-take, take-at, drop-cons, set-out}
 use Rattle.rows.specs.Laid.{laid}
 use Rattle.lines.specs.Lines.{lineEnd}
-use Rattle.lines.specs.Held.{partOf, endsIn, passed, heldBy, filled, Keeps, TakesIn, Moves, Holds, isLong}
+use Rattle.lines.specs.Held.{partOf, passed, heldBy, filled, Keeps, TakesIn, Moves, Holds, isLong}
 use Rattle.lines.specs.declared.Taken.{Taken}
 use Rattle.lines.proofs.Ends.{end-or-not, part-end, ends-end, passed-end, part-on, ends-on, passed-on}
 

@@ -1,8 +1,8 @@
 -- The lines of an input, byte by byte, are those of the paper's sentence. One way by induction over the bytes, with the unfinished line in front of them; the
 -- other way lines with their ends are cut into these lines, whatever stands behind. Assumes nothing.
 use mathlib.Core.List.{List, [], _∷_, _++_, append-assoc, append-nil}
-use mathlib.Core.Logic.{_⊎_, ⊎-elim}
-use mathlib.Core.Path.{_≡_, refl, sym, ap, _∙_}
+use mathlib.Core.Logic.{⊎-elim}
+use mathlib.Core.Path.{_≡_, refl, sym, _∙_}
 use Prim.Native.Nat.{ℕ}
 use native.Mathlib.Omega.{arith}
 use Rattle.lines.specs.Lines.{lineEnd, lastLine, linesFrom, linesOf, NoEndIn, NoEndInAny, withEnds, AreLines, all-end-in-10, last-ends-with-the-input}

@@ -21,7 +21,7 @@ abbrev pub endsIn : List ℕ → Bool
 endsIn [] = false
 endsIn (b ∷ bs) = cond (eqb b lineEnd) true (endsIn bs)
 
--- how many bytes that is, "its end not counted", and with its end
+-- how many bytes are passed: those, and the byte 10 behind them
 abbrev pub passed : List ℕ → ℕ
 passed bs = length (partOf bs) + cond (endsIn bs) 1 0
 

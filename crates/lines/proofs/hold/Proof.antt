@@ -5,8 +5,6 @@ use borrow.Author.Needs.{needs}
 use Rattle.lines.proofs.Held.{hold-there, hold-nowhere}
 use Rattle.lines.proofs.hold.Statement.{statement}
 use Rattle.lines.proofs.hold.Tie as tie
-use Rattle.lines.proofs.hold.Reads as reads
-use Rattle.lines.proofs.hold.Lts as lts
 
 slice-write-line : tie.Need-slice-write-line
 slice-write-line c = search needs

@@ -10,9 +10,6 @@ use Rattle.lines.specs.declared.Taken.{Taken}
 use Rattle.lines.proofs.Held.{keeps-length, takes-none, takes-end, takes-byte, moves-of}
 use Rattle.lines.proofs.take_in.Statement.{statement}
 use Rattle.lines.proofs.take_in.Tie as tie
-use Rattle.lines.proofs.take_in.Reads as reads
-use Rattle.lines.proofs.take_in.Lts as lts
-use Rattle.lines.proofs.hold.Reads as hold-reads
 
 abbrev Inv-loop : tie.InvT-loop
 Inv-loop bytes from line₀ held at₀ count₀ line at count =
