@@ -15,7 +15,8 @@ use Rattle.lines.specs.Chunks.{addLine, cutAll, linesByChunks, joined}
 use Rattle.lines.specs.declared.Taken.{Taken}
 use Rattle.lines.proofs.Ends.{end-or-not, lines-end, cut-end, part-end, ends-end, passed-end, lines-on, cut-on, part-on, ends-on, passed-on}
 
-lines-append : (c r s : List ℕ) → linesFrom s (c ++ r) ≡ cutAll s c .lines ++ linesFrom (cutAll s c .rest) r
+-- a chunk in front of other bytes
+pub lines-append : (c r s : List ℕ) → linesFrom s (c ++ r) ≡ cutAll s c .lines ++ linesFrom (cutAll s c .rest) r
 lines-append [] r s = refl
 lines-append (b ∷ c) r s =
     ⊎-elim

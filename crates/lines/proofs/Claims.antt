@@ -1,9 +1,9 @@
 -- The claims of specs/Claims.antt, each by laws of the file that is named as its definitions are. Assumes nothing.
 use mathlib.Core.List.{[]}
-use mathlib.Core.Path.{sym, _∙_}
+use mathlib.Core.Path.{refl, sym, _∙_}
 use lib.ListN.{drop}
 use Rattle.lines.specs.Held.{partOf}
-use Rattle.lines.specs.Claims.{LinesAreLines, OneCutting, OneTaken, HoldsNothing, HoldsOn, LongExactly, HeldIsTheLine, EmptyExactly, ChunksDoNotMatter, TurnEndsLine, TurnLeavesLine}
+use Rattle.lines.specs.Claims.{LinesAreLines, OneCutting, WorkedLines, OneTaken, HoldsNothing, HoldsOn, LongExactly, HeldIsTheLine, EmptyExactly, ChunksDoNotMatter, TurnEndsLine, TurnLeavesLine}
 use Rattle.lines.proofs.Lines.{from-are, lines-only}
 use Rattle.lines.proofs.Held.{taken-same, holds-none, holds-part, long-same, held-line, held-empty}
 use Rattle.lines.proofs.Chunks.{chunks-from, turn-ends, turn-leaves}
@@ -13,6 +13,9 @@ lines-are-lines input = from-are input [] tt
 
 pub one-cutting : OneCutting
 one-cutting input a b p q = sym (lines-only input a p) ∙ lines-only input b q
+
+pub worked-lines : WorkedLines
+worked-lines = (refl, refl, refl, refl, refl, refl)
 
 pub one-taken : OneTaken
 one-taken = taken-same

@@ -55,6 +55,6 @@ last-some (b ∷ l) some = refl
 pub lines-only : (input : List ℕ) (ls : List (List ℕ)) → AreLines input ls → linesOf input ≡ ls
 lines-only input ls (all-end-in-10 ms p e) =
     let h : linesOf (withEnds ms ++ []) ≡ ms ++ [] = of-ends ms [] p in
-    rw e (rw append-nil at (rw append-nil at h))
+    rw e (rw (append-nil (withEnds ms)) at (rw (append-nil ms) at h))
 lines-only input ls (last-ends-with-the-input ms last p q some e) =
     rw (e, of-ends ms last p, from-last last [] q, last-some last some)

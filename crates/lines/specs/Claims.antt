@@ -1,7 +1,7 @@
 -- What is proved of the definitions and of the promise of `take_in`, as types; each is proved under the same name with hyphens in proofs/Claims.antt.
 -- In order: the lines of an input; one outcome; what a room shows; chunks; a call of `take_in` in a chunk. Assumes nothing.
 use mathlib.Core.Bool.{true, false}
-use mathlib.Core.List.{List, [], _++_}
+use mathlib.Core.List.{List, [], _∷_, _++_}
 use mathlib.Core.Logic.{_↔_}
 use mathlib.Core.Path.{_≡_}
 use Prim.Native.Nat.{ℕ}
@@ -18,6 +18,16 @@ LinesAreLines = (input : List ℕ) → AreLines input (linesOf input)
 
 abbrev pub OneCutting : Type 0
 OneCutting = (input : List ℕ) (a b : List (List ℕ)) → AreLines input a → AreLines input b → a ≡ b
+
+-- "Input of two lines, `8b` and `1.b`", with an end behind the last and without; no byte; a line end, two, and one behind a line
+abbrev pub WorkedLines : Type 0
+WorkedLines =
+    (linesOf (56 ∷ 98 ∷ 10 ∷ 49 ∷ 46 ∷ 98 ∷ 10 ∷ []) ≡ (56 ∷ 98 ∷ []) ∷ (49 ∷ 46 ∷ 98 ∷ []) ∷ [])
+    × (linesOf (56 ∷ 98 ∷ 10 ∷ 49 ∷ 46 ∷ 98 ∷ []) ≡ (56 ∷ 98 ∷ []) ∷ (49 ∷ 46 ∷ 98 ∷ []) ∷ [])
+    × (linesOf [] ≡ [])
+    × (linesOf (10 ∷ []) ≡ [] ∷ [])
+    × (linesOf (10 ∷ 10 ∷ []) ≡ [] ∷ [] ∷ [])
+    × (linesOf (56 ∷ 10 ∷ 10 ∷ []) ≡ (56 ∷ []) ∷ [] ∷ [])
 
 -- "any two results allowed by one statement are proved equal"
 abbrev pub OneTaken : Type 0
