@@ -51,13 +51,16 @@ keeps-none l n = record { count = sym (held-none n (length l)); stored = sym (fi
 pub keeps-length : (l : List ℕ) (n : ℕ) (a : List ℕ) (h : ℕ) (k : List ℕ) → Keeps l n a h k → length k ≡ length l
 keeps-length l n a h k p = ap length (p .stored) ∙ length-filled l n a
 
-pub keeps-on : (l : List ℕ) (n : ℕ) (a : List ℕ) (h : ℕ) (k : List ℕ) (b : List ℕ) (g : ℕ) (new : List ℕ) → Keeps l n a h k → Keeps k h b g new → Keeps l n (a ++ b) g new
+pub keeps-on : (l : List ℕ) (n : ℕ) (a : List ℕ) (h : ℕ) (k : List ℕ) (b : List ℕ) (g : ℕ) (new : List ℕ) → Keeps l n a h k → Keeps k h b g new
+    → Keeps l n (a ++ b) g new
 keeps-on l n a h k b g new p q =
     let e = keeps-length l n a h k p in
     let count : g ≡ heldBy n (length l) (length (a ++ b)) = omega (arith, p .count, q .count, length-append a b) in
-    record { count = count; stored = q .stored ∙ ap (λ (m : ℕ). filled k m b) (p .count) ∙ ap (λ (r : List ℕ). filled r (heldBy n (length l) (length a)) b) (p .stored) ∙ filled-append l n a b }
+    let stored : new ≡ filled l n (a ++ b) =
+    q .stored ∙ ap (λ (m : ℕ). filled k m b) (p .count) ∙ ap (λ (r : List ℕ). filled r (heldBy n (length l) (length a)) b) (p .stored) ∙ filled-append l n a b in
+    record { count = count; stored = stored }
 
--- THE ENDS AND TURNS OF `hold`
+-- THE ENDS OF `hold`: the byte is stored, or there is no room
 pub hold-there : (l : List ℕ) (n b : ℕ) → n < length l → Keeps l n (b ∷ []) (n + 1) (set l n b)
 hold-there l n b h = record { count = omega arith; stored = filled-one l n b }
 
@@ -91,7 +94,9 @@ module _ (bytes : List ℕ) (at : ℕ) (room : List ℕ) (held : ℕ) where
     takes-byte n h kept k t new p = record {
       next = rw (rest-is, passed-on (getD bytes at 0) (drop (at + 1) bytes) n) (omega (arith, p .next));
       ended = rw (rest-is, ends-on (getD bytes at 0) (drop (at + 1) bytes) n) (p .ended);
-      keeps = rw (rest-is, part-on (getD bytes at 0) (drop (at + 1) bytes) n) (keeps-on room held (getD bytes at 0 ∷ []) h kept (partOf (drop (at + 1) bytes)) (t .held) new k (p .keeps));
+      keeps =
+          rw (rest-is, part-on (getD bytes at 0) (drop (at + 1) bytes) n)
+          (keeps-on room held (getD bytes at 0 ∷ []) h kept (partOf (drop (at + 1) bytes)) (t .held) new k (p .keeps));
     }
 
 -- WHAT OF THE PROMISE A LOOP NEEDS: of some bytes at least one is passed, and never more than there are
