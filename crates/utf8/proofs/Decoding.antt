@@ -1,0 +1,79 @@
+-- All code points of some bytes. In order: one sequence and then the rest; what is stored, as far as there is room; between two sequences (`Mid`): the code points
+-- still to come, stored behind those that are, make the whole. Assumes nothing.
+use mathlib.Core.List.{List, [], _∷_, _++_}
+use mathlib.Core.Logic.{⊎-elim}
+use mathlib.Core.Path.{_≡_, refl, sym, ap, _∙_}
+use Prim.Native.Nat.{ℕ, zero, suc, _+_, _-_, _≤_, _<_}
+use native.Mathlib.Omega.{arith}
+use native.Mathlib.Nat.{not-suc-le-zero, zero-add, sub-zero}
+use lib.ListN.{length, take, drop, set, length-take, length-set, drop-of-length-le}
+use lib.Seq.{drop-drop, set-out, sets, sets-eq}
+use Rattle.rows.specs.Laid.{laid}
+use Rattle.rules.proofs.Finite.{le-or-lt}
+use Rattle.utf8.specs.Decoding.{lengthAt, pointAt, decodedFrom, decoded, Decoded}
+use Rattle.utf8.specs.Leads.{NextIs}
+use Rattle.utf8.specs.declared.Next.{Next}
+
+-- ONE SEQUENCE, and then the rest
+pub behind : (k : ℕ) (bs : List ℕ) → decodedFrom k bs ≡ decoded (drop k bs)
+behind zero bs = refl
+behind (suc k) [] = refl
+behind (suc k) (b ∷ bs) = behind k bs
+
+front : (bs : List ℕ) → 0 < length bs → decoded bs ≡ pointAt bs ∷ decoded (drop (suc (lengthAt bs - 1)) bs)
+front [] h = absurd (not-suc-le-zero h)
+front (b ∷ bs) h = ap (λ (t : List ℕ). pointAt (b ∷ bs) ∷ t) (behind (lengthAt (b ∷ bs) - 1) bs)
+
+pub decoded-on : (bytes : List ℕ) (at next : ℕ) → 0 < length (drop at bytes) → next ≡ at + suc (lengthAt (drop at bytes) - 1)
+    → decoded (drop at bytes) ≡ pointAt (drop at bytes) ∷ decoded (drop next bytes)
+decoded-on bytes at next h e =
+    front (drop at bytes) h
+    ∙ ap (λ (r : List ℕ). pointAt (drop at bytes) ∷ decoded r) (drop-drop (suc (lengthAt (drop at bytes) - 1)) at bytes ∙ ap (λ (k : ℕ). drop k bytes) (sym e))
+
+-- WHAT IS STORED
+stored-past : (vs l : List ℕ) (i : ℕ) → length l ≤ i → sets l i vs ≡ l
+stored-past [] l i h = refl
+stored-past (v ∷ vs) l i h = rw (set-out l i v h) (stored-past vs l (suc i) (omega (arith, h)))
+
+stored-fit : (vs l : List ℕ) (i n : ℕ) → i + n ≡ length l → sets l i vs ≡ sets l i (take n vs)
+stored-fit vs l i zero e = stored-past vs l i (omega (arith, e))
+stored-fit [] l i (suc n) e = refl
+stored-fit (v ∷ vs) l i (suc n) e = stored-fit vs (set l i v) (suc i) n (rw length-set (omega (arith, e)))
+
+pub stored-is : (vs l : List ℕ) → sets l 0 vs ≡ laid (take (length l) vs) l
+stored-is vs l =
+    let w : List ℕ = take (length l) vs in
+    let room : 0 + length w ≤ length l = simp length-take (omega arith) in
+    stored-fit vs l 0 (length l) (zero-add (length l)) ∙ sets-eq w l 0 room ∙ ap (λ (k : ℕ). w ++ drop k l) (zero-add (length w))
+
+-- BETWEEN TWO SEQUENCES
+pub record Mid (bytes lent text : List ℕ) (at count : ℕ) : Type 0 where
+  pub inside : at ≤ length bytes
+  pub few : count ≤ at
+  pub same : length text ≡ length lent
+  pub counted : count + length (decoded (drop at bytes)) ≡ length (decoded bytes)
+  pub stored : sets text count (decoded (drop at bytes)) ≡ sets lent 0 (decoded bytes)
+
+module _ (bytes lent : List ℕ) where
+  pub mid-start : Mid bytes lent lent 0 0
+  mid-start = record { inside = omega arith; few = omega arith; same = refl; counted = zero-add (length (decoded bytes)); stored = refl }
+
+  module _ (text : List ℕ) (at count : ℕ) (m : Mid bytes lent text at count) where
+    pub mid-on : (r : Next) → NextIs bytes (drop at bytes) at r → 0 < length (drop at bytes) → Mid bytes lent (set text count (r .point)) (r .next) (count + 1)
+    mid-on r n some =
+        let on : decoded (drop at bytes) ≡ r .point ∷ decoded (drop (r .next) bytes) =
+            decoded-on bytes at (r .next) some (n .next) ∙ ap (λ (p : ℕ). p ∷ decoded (drop (r .next) bytes)) (sym (n .point)) in
+        let count-on : count + 1 ≡ suc count = omega arith in record {
+          inside = n .inside;
+          few = omega (arith, m .few, n .next);
+          same = length-set text count (r .point) ∙ m .same;
+          counted = omega (arith, m .counted, ap length on);
+          stored = rw count-on (sym (ap (λ (t : List ℕ). sets text count t) on) ∙ m .stored);
+        }
+
+    pub mid-done : length bytes ≤ at → Decoded bytes lent count text
+    mid-done h =
+        let none : decoded (drop at bytes) ≡ [] = ap decoded (drop-of-length-le bytes {i = at} h) in record {
+          count = omega (arith, m .counted, ap length none);
+          text = sym (ap (λ (t : List ℕ). sets text count t) none) ∙ m .stored ∙ stored-is (decoded bytes) lent;
+        }

@@ -1,0 +1,4 @@
+pub mod Table
+pub mod Joining
+pub mod Sequences
+pub mod Decoding

@@ -1,0 +1,4 @@
+pub mod Forms
+pub mod Decoding
+pub mod Encoding
+pub mod Leads
