@@ -62,7 +62,7 @@ module _ (bytes lent : List ℕ) where
     pub mid-on : (r : Next) → NextIs bytes (drop at bytes) at r → 0 < length (drop at bytes) → Mid bytes lent (set text count (r .point)) (r .next) (count + 1)
     mid-on r n some =
         let on : decoded (drop at bytes) ≡ r .point ∷ decoded (drop (r .next) bytes) =
-            decoded-on bytes at (r .next) some (n .next) ∙ ap (λ (p : ℕ). p ∷ decoded (drop (r .next) bytes)) (sym (n .point)) in
+        decoded-on bytes at (r .next) some (n .next) ∙ ap (λ (p : ℕ). p ∷ decoded (drop (r .next) bytes)) (sym (n .point)) in
         let count-on : count + 1 ≡ suc count = omega arith in record {
           inside = n .inside;
           few = omega (arith, m .few, n .next);

@@ -2,3 +2,4 @@ pub mod Table
 pub mod Joining
 pub mod Sequences
 pub mod Decoding
+pub mod Encoding

@@ -59,11 +59,11 @@ module _ (bytes : List ℕ) (at b : ℕ) (there : at < length bytes) (byte : b �
           let whole : lengthAt (b ∷ rest) ≡ suc n = begun .sequence rest ∙ ap (λ (x : Bool). cond x (suc n) 0) (j .0) in
           let width : length (take n rest) ≡ n = length-take-le n rest (rw length-drop later-there) in
           let value : joined (b - mark) (take n rest) ≡ pointOf (b ∷ take n rest) =
-              ap (λ (k : ℕ). joined (b - k) (take n rest)) (begun .marked ∙ sym (ap (λ (k : ℕ). markOf (suc k)) width)) in
+          ap (λ (k : ℕ). joined (b - k) (take n rest)) (begun .marked ∙ sym (ap (λ (k : ℕ). markOf (suc k)) width)) in
           let there-is : pointBy (suc n) (b ∷ rest) ≡ pointOf (b ∷ take n rest) = rw (eqb·suc-zero n) refl in
           let point-is : v ≡ pointAt (b ∷ rest) =
-              j .1 ∙ ap (λ (k : ℕ). joined (b - mark) (take k rest)) (length-later n low high) ∙ value ∙ sym there-is
-              ∙ sym (ap (λ (k : ℕ). pointBy k (b ∷ rest)) whole) in
+          j .1 ∙ ap (λ (k : ℕ). joined (b - mark) (take k rest)) (length-later n low high) ∙ value ∙ sym there-is
+          ∙ sym (ap (λ (k : ℕ). pointBy k (b ∷ rest)) whole) in
           let length-is : lengthAt (drop at bytes) ≡ suc n = ap lengthAt rest-is ∙ whole in record {
             point = e ∙ point-is ∙ sym (ap pointAt rest-is);
             next = f ∙ (omega (arith, length-is));

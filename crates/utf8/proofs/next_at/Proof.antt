@@ -112,7 +112,7 @@ returns-2 c =
     let j = c .before .before .before in
     let k = at-j j in
     let outside : JoinedIs (laterForm (later k) (least k) (most k)) (first k - mark k) (drop (place k + 1) (bytes k)) joins.Outside =
-        subst (λ (x : Joined). JoinedIs (laterForm (later k) (least k) (most k)) (first k - mark k) (drop (place k + 1) (bytes k)) x) (c .before .enum-told2 .given .1) (joined-is j) in
+    subst (λ (x : Joined). JoinedIs (laterForm (later k) (least k) (most k)) (first k - mark k) (drop (place k + 1) (bytes k)) x) (c .before .enum-told2 .given .1) (joined-is j) in
     next-outside (bytes k) (place k) (first k) (start k .pre) refl
     (cut (bytes k) (place k) (first k) (start k .pre) refl (later k) (least k) (most k) (mark k) (begun k) outside) (c .outside2 .result) (c .outside2 .ensures)
 
@@ -125,7 +125,7 @@ add-t15 c =
     let k = at-j j in
     let v = c .before .point .given .0 .0 in
     let whole : JoinedIs (laterForm (later k) (least k) (most k)) (first k - mark k) (drop (place k + 1) (bytes k)) (joins.Point v) =
-        subst (λ (x : Joined). JoinedIs (laterForm (later k) (least k) (most k)) (first k - mark k) (drop (place k + 1) (bytes k)) x) (c .before .point .given .1) (joined-is j) in
+    subst (λ (x : Joined). JoinedIs (laterForm (later k) (least k) (most k)) (first k - mark k) (drop (place k + 1) (bytes k)) x) (c .before .point .given .1) (joined-is j) in
     omega (arith, later-there (bytes k) (place k) (first k) (start k .pre) refl (later k) (least k) (most k) (mark k) (begun k) v whole, start k .pre, start k .good)
 
 returns-3 : tie.Need-returns-3
@@ -134,7 +134,7 @@ returns-3 c =
     let k = at-j j in
     let v = c .before .point .given .0 .0 in
     let whole : JoinedIs (laterForm (later k) (least k) (most k)) (first k - mark k) (drop (place k + 1) (bytes k)) (joins.Point v) =
-        subst (λ (x : Joined). JoinedIs (laterForm (later k) (least k) (most k)) (first k - mark k) (drop (place k + 1) (bytes k)) x) (c .before .point .given .1) (joined-is j) in
+    subst (λ (x : Joined). JoinedIs (laterForm (later k) (least k) (most k)) (first k - mark k) (drop (place k + 1) (bytes k)) x) (c .before .point .given .1) (joined-is j) in
     next-whole (bytes k) (place k) (first k) (start k .pre) refl (later k) (least k) (most k) (mark k) (begun k) v whole _ refl refl
 
 pub next-at-spec : {M : Type 1} → statement M
