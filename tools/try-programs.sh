@@ -80,8 +80,9 @@ try() { # PROGRAM WHAT INPUT EXPECTED
     try_files "$1" "$2"
 }
 
-# The text behind 'ok ', of the lines that have it.
+# The text behind 'ok ': of the lines that have it; or of those, with the others as they are, so that lines stay in step.
 behind_ok() { sed -n 's/^ok //p'; }
+without_ok() { sed 's/^ok //'; }
 
 # What the steps show, joined. A sign of one blank is followed by another blank or by the end, so the blank before a place is told from it.
 joined() { sed -n '/^ok/{ s/^ok//; s/ [0-9][0-9]*://g; p; }'; }
@@ -114,6 +115,17 @@ for program in transcribe read steps; do
     cat "crates/$program/stdout" >"$room/expected"
     try_files "$program" 'the samples'
 done
+
+# An example of the page for teachers is a line '- `TEXT` → `ANSWER`'; the rows begin with a cell.
+examples() { sed -n 's/^- `\(.*\)` → `\(.*\)`$/'"$1"'/p' docs/REFUSALS.md; } # WHAT, of the two
+cells=$(printf '\342\240')
+examples '\1' | grep -v "^$cells" >"$room/in"
+examples '\1	\2' | grep -v "^$cells" | cut -f 2 >"$room/expected"
+try_files transcribe 'the examples of docs/REFUSALS.md'
+examples '\1' | grep "^$cells" >"$room/in"
+examples '\1	\2' | grep "^$cells" | cut -f 2 >"$room/expected"
+try_files read 'the examples of docs/REFUSALS.md'
+try_files steps 'the examples of docs/REFUSALS.md'
 
 # ---- where lines begin and end
 
@@ -295,8 +307,8 @@ fi
 # ---- reading undoes transcribing
 
 there_and_back() { # FILE EXPECTED WHAT
-    run transcribe <"$1" 2>"$room/err" | behind_ok >"$room/rows"
-    run read <"$room/rows" 2>>"$room/err" | behind_ok >"$room/out"
+    run transcribe <"$1" 2>"$room/err" | without_ok >"$room/rows"
+    run read <"$room/rows" 2>>"$room/err" | without_ok >"$room/out"
     cat "$2" >"$room/expected"
     judge "$3" 0
 }
