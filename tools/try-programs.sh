@@ -116,6 +116,15 @@ for program in transcribe read steps; do
     try_files "$program" 'the samples'
 done
 
+# The vectors of print that are typed, each once: not those in code points, and none that is repeated.
+awk -v given="$room/in" -v due="$room/expected" '
+    /^name / { typed = 0 }
+    /^print/ { typed = 1; text = substr($0, 7) }
+    /^times/ { typed = 0 }
+    /^cells/ && typed { print text >given; print "ok " substr($0, 7) >due }
+    /^no / && typed { print text >given; print >due }' vectors/print-to-cells.txt
+try_files transcribe "$(($(wc -l <"$room/in"))) vectors"
+
 # An example of the page for teachers is a line '- `TEXT` → `ANSWER`'; the rows begin with a cell.
 examples() { sed -n 's/^- `\(.*\)` → `\(.*\)`$/'"$1"'/p' docs/REFUSALS.md; } # WHAT, of the two
 cells=$(printf '\342\240')
@@ -337,6 +346,9 @@ awk 'NR == FNR { cells[NR] = length($0) / 3; next }
     }' "$room/rows" "$room/steps" >"$room/out" 2>"$room/err"
 : >"$room/expected"
 judge 'steps: the places of a page are one to three cells apart, from 0 to the end' 0
+
+awk -v n=200 -f tools/make-paragraphs.awk >"$room/paragraphs"
+there_and_back "$room/paragraphs" "$room/paragraphs" '200 paragraphs are read back byte by byte'
 
 # ---- input at random, the same each time
 
