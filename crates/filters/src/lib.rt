@@ -55,7 +55,7 @@ fn print(
             out,
         ),
         Program::Read => answers::read_line(&line[..held], points, row, text, out),
-        Program::Steps => answers::steps_line(&line[..held], points, row, out),
+        Program::Steps => proofing::steps_line(&line[..held], points, row, out),
     }
 }
 
