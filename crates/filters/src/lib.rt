@@ -45,7 +45,7 @@ fn print(
     out: &mut [u8],
 ) -> usize {
     if lines::is_long(line, held) {
-        return answers::long_line(out);
+        return printing::long_line(out);
     }
     match program {
         Program::Transcribe => answers::transcribe_line(

@@ -1,12 +1,22 @@
 // Bytes at a place of a slice that is lent: numbers, code points, cells. Where there is no room for a byte it is left out, and the place stays; a caller that lends enough room
 // has all of it printed (specs/Printed.antt).
-ghost use Rattle.printing.specs.Printed.{decimalOf, bytesOfText, charactersOf, Prints};
+ghost use mathlib.Core.List.{[], _∷_};
+ghost use mathlib.Core.Path.{_≡_};
+ghost use Prim.Native.Nat.{_+_};
+ghost use Rattle.utf8.specs.Encoding.{encodedOf};
+ghost use Rattle.printing.specs.Printed.{decimalOf, bytesOfText, charactersOf, refusalLine, longLine, Prints};
 
 // "one character U+2800 plus the cell for each cell"
-pub const FIRST_PATTERN: u32 = 0x2800;
+const FIRST_PATTERN: u32 = 0x2800;
+
+pub const LINE_END: u8 = b'\n';
+
+pub const BLANK: u8 = b' ';
 
 // Prints a byte at a place of what is lent, and answers the place behind it. Where there is no room nothing is printed.
-pub fn put(out: &mut [u8], at: usize, byte: u8) -> usize {
+pub fn put(out: &mut [u8], at: usize, byte: u8) -> usize
+    ensures { λ r. ⌜ Prints (now (out .entry)) at (byte ∷ []) r (now (out .exit)) ⌝ }
+{
     if at < out.len() {
         out[at] = byte;
         return at + 1;
@@ -14,7 +24,9 @@ pub fn put(out: &mut [u8], at: usize, byte: u8) -> usize {
     at
 }
 
-pub fn put_all(out: &mut [u8], at: usize, bytes: &[u8]) -> usize {
+pub fn put_all(out: &mut [u8], at: usize, bytes: &[u8]) -> usize
+    ensures { λ r. ⌜ Prints (now (out .entry)) at (now (bytes .entry)) r (now (out .exit)) ⌝ }
+{
     let mut place = at;
     let mut i = 0;
     while i < bytes.len() {
@@ -25,25 +37,33 @@ pub fn put_all(out: &mut [u8], at: usize, bytes: &[u8]) -> usize {
 }
 
 // A code point, in UTF-8.
-pub fn put_point(out: &mut [u8], at: usize, point: u32) -> usize {
+pub fn put_point(out: &mut [u8], at: usize, point: u32) -> usize
+    ensures { λ r. ⌜ Prints (now (out .entry)) at (encodedOf point) r (now (out .exit)) ⌝ }
+{
     let mut bytes = [0u8; 4];
     let n = utf8::encode(point, &mut bytes);
     put_all(out, at, &bytes[..n])
 }
 
 // A number, in decimal.
-pub fn put_number(out: &mut [u8], at: usize, n: usize) -> usize {
+pub fn put_number(out: &mut [u8], at: usize, n: usize) -> usize
+    ensures { λ r. ⌜ Prints (now (out .entry)) at (decimalOf n) r (now (out .exit)) ⌝ }
+{
     let mut digits = [0u8; 20];
     let count = io::decimal(n as u64, &mut digits);
     put_all(out, at, &digits[..count])
 }
 
-fn pattern(cell: u8) -> u32 {
+fn pattern(cell: u8) -> u32
+    ensures { λ r. ⌜ r ≡ 0x2800 + cell ⌝ }
+{
     FIRST_PATTERN + cell as u32
 }
 
 // "one character U+2800 plus the cell for each cell"
-pub fn put_cells(out: &mut [u8], at: usize, row: &[u8]) -> usize {
+pub fn put_cells(out: &mut [u8], at: usize, row: &[u8]) -> usize
+    ensures { λ r. ⌜ Prints (now (out .entry)) at (charactersOf (now (row .entry))) r (now (out .exit)) ⌝ }
+{
     let mut place = at;
     let mut i = 0;
     while i < row.len() {
@@ -53,7 +73,9 @@ pub fn put_cells(out: &mut [u8], at: usize, row: &[u8]) -> usize {
     place
 }
 
-pub fn put_text(out: &mut [u8], at: usize, text: &[u32]) -> usize {
+pub fn put_text(out: &mut [u8], at: usize, text: &[u32]) -> usize
+    ensures { λ r. ⌜ Prints (now (out .entry)) at (bytesOfText (now (text .entry))) r (now (out .exit)) ⌝ }
+{
     let mut place = at;
     let mut i = 0;
     while i < text.len() {
@@ -61,4 +83,24 @@ pub fn put_text(out: &mut [u8], at: usize, text: &[u32]) -> usize {
         i += 1;
     }
     place
+}
+
+// "or `no`, the refusal number and the second number, with single blanks"
+pub fn put_refusal(out: &mut [u8], number: usize, second: usize) -> usize
+    ensures { λ r. ⌜ Prints (now (out .entry)) 0 (refusalLine number second) r (now (out .exit)) ⌝ }
+{
+    let mut at = put_all(out, 0, b"no");
+    at = put(out, at, BLANK);
+    at = put_number(out, at, number);
+    at = put(out, at, BLANK);
+    at = put_number(out, at, second);
+    put(out, at, LINE_END)
+}
+
+// "prints `long`"
+pub fn long_line(out: &mut [u8]) -> usize
+    ensures { λ r. ⌜ Prints (now (out .entry)) 0 (longLine) r (now (out .exit)) ⌝ }
+{
+    let at = put_all(out, 0, b"long");
+    put(out, at, LINE_END)
 }

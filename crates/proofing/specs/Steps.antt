@@ -1,6 +1,6 @@
 -- What `steps` prints for a line: "`ok` and for each sign a blank and PLACE:PRINT, by the public step alone; or `no N M` as reading refuses, without 6. An empty row prints `ok`."
 -- (paper 01: "The proofing screen steps sign by sign .."). In order: a sign, printed; the signs of a text; what is printed; the promise. Not here: the row that a line shows
--- (`Lines` of the crate `answers`). Assumes nothing.
+-- (crate `patterns`). Assumes nothing.
 use mathlib.Core.List.{List, [], _∷_, _++_}
 use mathlib.Core.Path.{_≡_}
 use Prim.Native.Nat.{ℕ, _+_}
@@ -13,8 +13,8 @@ use Rattle.rules.specs.Rows.{signsOf}
 use Rattle.rules.specs.Refusals.{Refusal}
 use Rattle.rules.specs.Answers.{RowRefused, ReadsAs}
 use Rattle.utf8.specs.Decoding.{decoded}
-use Rattle.printing.specs.Printed.{decimalOf, bytesOfText, Prints}
-use Rattle.answers.specs.Lines.{lineEnd, blank, noLine, rowOf}
+use Rattle.printing.specs.Printed.{decimalOf, bytesOfText, lineEnd, blank, noLine, Prints}
+use Rattle.patterns.specs.Patterns.{rowOf}
 
 abbrev pub colon : ℕ
 colon = 58

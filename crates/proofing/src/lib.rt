@@ -1,14 +1,19 @@
 // What the line program `steps` prints for a line: the proofing screen on paper. Each sign is shown by a step that is given the row and the place alone.
-use answers::BLANK;
-use answers::DONE;
-use answers::LINE_END;
-use answers::put_refusal;
-use answers::row_of;
 use desk::Sign;
+use patterns::row_of;
+use printing::BLANK;
+use printing::LINE_END;
 use printing::put;
 use printing::put_all;
 use printing::put_number;
 use printing::put_point;
+use printing::put_refusal;
+ghost use Prim.Native.Nat.{_≤_};
+ghost use lib.ListN.{length};
+ghost use Rattle.proofing.specs.Steps.{StepsLine};
+
+// The number that no refusal has.
+const DONE: usize = 0;
 
 const COLON: u8 = b':';
 
@@ -37,7 +42,12 @@ fn put_signs(out: &mut [u8], at: usize, row: &[u8]) -> usize {
 }
 
 // What `steps` prints for a line.
-pub fn steps_line(line: &[u8], points: &mut [u32], row: &mut [u8], out: &mut [u8]) -> usize {
+pub fn steps_line(line: &[u8], points: &mut [u32], row: &mut [u8], out: &mut [u8]) -> usize
+    requires { ⌜ length (now line) ≤ length (now points) ⌝ }
+    requires { ⌜ length (now line) ≤ length (now row) ⌝ }
+    ensures { λ r. ⌜ StepsLine (now (line .entry)) (now (points .entry)) (now (row .entry)) (now (out .entry)) r (now (points .exit)) (now (row .exit)) (now (out .exit)) ⌝ }
+    ensures { λ r. ⌜ r ≤ length (now (out .exit)) ⌝ }
+{
     let cells = row_of(line, points, row);
     let first = desk::desk_step(&row[..cells], 0);
     if first.number != DONE {

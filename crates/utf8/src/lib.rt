@@ -171,6 +171,7 @@ fn store(text: &mut [u32], place: usize, point: u32)
 // out: one that shows one U+FFFD for several bytes, and one that takes an overlong sequence or a surrogate for a code point.
 pub fn decode(bytes: &[u8], text: &mut [u32]) -> usize
     ensures { λ r. ⌜ Decoded (now (bytes .entry)) (now (text .entry)) r (now (text .exit)) ⌝ }
+    ensures { λ r. ⌜ r ≤ length (now (bytes .entry)) ⌝ }
 {
     let mut at = 0;
     let mut count = 0;

@@ -56,7 +56,7 @@ returns : tie.Need-returns Inv-loop μ-loop
 returns c =
     let l = c .before in
     let s = l .before .before .before in
-    mid-done (s .args .bytes .now) (s .args .text .now) (l .loop .text) (l .loop .at) (l .loop .count) (l .loop .inv) (c .loop-test .left)
+    (mid-done (s .args .bytes .now) (s .args .text .now) (l .loop .text) (l .loop .at) (l .loop .count) (l .loop .inv) (c .loop-test .left), omega (arith, l .loop .inv .few, l .loop .inv .inside))
 
 pub decode-spec : {M : Type 1} → statement M
 decode-spec =
