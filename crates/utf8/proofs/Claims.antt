@@ -72,7 +72,7 @@ sequence-decoded (b ∷ s) bs w =
     let e : lengthAt (b ∷ (s ++ bs)) ≡ suc (length s) = sequence-length (b ∷ s) bs w in
     let point : pointBy (suc (length s)) (b ∷ (s ++ bs)) ≡ pointOf (b ∷ s) = rw (eqb·suc-zero (length s), take-append-seam s bs) refl in
     let rest : decodedFrom (lengthAt (b ∷ (s ++ bs)) - 1) (s ++ bs) ≡ decoded bs =
-        ap (λ (n : ℕ). decodedFrom (n - 1) (s ++ bs)) e ∙ ap (λ (n : ℕ). decodedFrom n (s ++ bs)) (omega arith) ∙ behind (length s) (s ++ bs) ∙ ap decoded (drop-append-seam s bs) in
+    ap (λ (n : ℕ). decodedFrom (n - 1) (s ++ bs)) e ∙ ap (λ (n : ℕ). decodedFrom n (s ++ bs)) (omega arith) ∙ behind (length s) (s ++ bs) ∙ ap decoded (drop-append-seam s bs) in
     ap (λ (p : ℕ). p ∷ decodedFrom (lengthAt (b ∷ (s ++ bs)) - 1) (s ++ bs)) (ap (λ (n : ℕ). pointBy n (b ∷ (s ++ bs))) e ∙ point)
     ∙ ap (λ (t : List ℕ). pointOf (b ∷ s) ∷ t) rest
 
@@ -131,8 +131,7 @@ later-byte [] s k l t h = absurd (omega (arith, h))
 later-byte (r ∷ f) [] k l t h = absurd t
 later-byte (r ∷ f) (b ∷ s) zero l t h =
     let inside = and-left (within r b) (begin f s) t in
-    let bounds = and-left (later r) (every later f) l in
-    (
+    let bounds = and-left (later r) (every later f) l in (
       omega (arith, leb→le 0x80 (r .0) (and-left (leb 0x80 (r .0)) (leb (r .1) 0xbf) bounds), leb→le (r .0) b (and-left (leb (r .0) b) (leb b (r .1)) inside)),
       omega (arith, leb→le (r .1) 0xbf (and-right (leb 0x80 (r .0)) (leb (r .1) 0xbf) bounds), leb→le b (r .1) (and-right (leb (r .0) b) (leb b (r .1)) inside)),
     )
@@ -181,7 +180,7 @@ sequences-apart bytes i j s u v w at-i at-j h = ⊎-elim (λ q. q) (λ q. absurd
         let place : i + suc k ≡ j = omega (arith, h) in
         let here : suc k < length s = omega (arith, q, place) in
         let same : getD s (suc k) 0 ≡ getD u 0 0 =
-            byte-there bytes i s (suc k) at-i here ∙ ap (λ (n : ℕ). getD bytes n 0) (omega (arith, place)) ∙ sym (byte-there bytes j u 0 at-j (some-byte u w)) in
+        byte-there bytes i s (suc k) at-i here ∙ ap (λ (n : ℕ). getD bytes n 0) (omega (arith, place)) ∙ sym (byte-there bytes j u 0 at-j (some-byte u w)) in
         let inner = inner-byte (getD forms (v .line) []) s k (made s v) (v .fits) (omega (arith, here, v .whole)) in
         first-byte (getD forms (w .line) []) u (made u w) (w .fits) (omega (arith, inner .0, same)) (omega (arith, inner .1, same))
 

@@ -59,8 +59,8 @@ module _ (c : ℕ) where
             tt;
       },
       let upper : c / 0x40000 * 64 + c / 0x1000 % 0x40 ≡ c / 0x1000 = omega arith in
-      let middle : c / 0x1000 * 64 + c / 0x40 % 0x40 ≡ c / 0x40 = omega arith in
-      omega (arith, upper, middle),
+          let middle : c / 0x1000 * 64 + c / 0x40 % 0x40 ≡ c / 0x40 = omega arith in
+          omega (arith, upper, middle),
     )
 
   spells-two : 0x80 ≤ c → c < 0x800 → Spells c ((0xc0 + c / 0x40) ∷ (0x80 + c % 0x40) ∷ [])
@@ -85,19 +85,19 @@ module _ (c : ℕ) where
       by 0x800 (λ h. rw (two-bytes c l h) (spells-two l h)) (λ m.
       by 0x10000
       (λ h.
-          rw (three-bytes c m h)
-          (by 0x1000 (λ k. spells-three 2 0xe0 0xe0 0xa0 0xbf refl (omega arith) (omega arith) (omega (arith, k)) (omega (arith, m, k)) (omega arith)) (λ n.
-          by 0xd000 (λ k. spells-three 3 0xe1 0xec 0x80 0xbf refl (omega arith) (omega (arith, n)) (omega (arith, k)) (omega arith) (omega arith)) (λ o.
-          by 0xe000
-          (λ k.
-              let low : c < 0xd800 = ⊎-elim (λ q. q) (λ q. absurd (omega (arith, q, k))) apart in
-              spells-three 4 0xed 0xed 0x80 0x9f refl (omega arith) (omega (arith, o)) (omega (arith, k)) (omega arith) (omega (arith, o, low)))
-          (λ k. spells-three 5 0xee 0xef 0x80 0xbf refl (omega arith) (omega (arith, k)) (omega (arith, h)) (omega arith) (omega arith))))))
+      rw (three-bytes c m h)
+      (by 0x1000 (λ k. spells-three 2 0xe0 0xe0 0xa0 0xbf refl (omega arith) (omega arith) (omega (arith, k)) (omega (arith, m, k)) (omega arith)) (λ n.
+      by 0xd000 (λ k. spells-three 3 0xe1 0xec 0x80 0xbf refl (omega arith) (omega (arith, n)) (omega (arith, k)) (omega arith) (omega arith)) (λ o.
+      by 0xe000
+      (λ k.
+      let low : c < 0xd800 = ⊎-elim (λ q. q) (λ q. absurd (omega (arith, q, k))) apart in
+      spells-three 4 0xed 0xed 0x80 0x9f refl (omega arith) (omega (arith, o)) (omega (arith, k)) (omega arith) (omega (arith, o, low)))
+      (λ k. spells-three 5 0xee 0xef 0x80 0xbf refl (omega arith) (omega (arith, k)) (omega (arith, h)) (omega arith) (omega arith))))))
       (λ n.
-          rw (four-bytes c n)
-          (by 0x40000 (λ k. spells-four 6 0xf0 0xf0 0x90 0xbf refl (omega arith) (omega arith) (omega (arith, k)) (omega (arith, n, k)) (omega arith)) (λ o.
-          by 0x100000 (λ k. spells-four 7 0xf1 0xf3 0x80 0xbf refl (omega arith) (omega (arith, o)) (omega (arith, k)) (omega arith) (omega arith)) (λ k.
-          spells-four 8 0xf4 0xf4 0x80 0x8f refl (omega arith) (omega (arith, k)) (omega (arith, most)) (omega arith) (omega (arith, k, most))))))))
+      rw (four-bytes c n)
+      (by 0x40000 (λ k. spells-four 6 0xf0 0xf0 0x90 0xbf refl (omega arith) (omega arith) (omega (arith, k)) (omega (arith, n, k)) (omega arith)) (λ o.
+      by 0x100000 (λ k. spells-four 7 0xf1 0xf3 0x80 0xbf refl (omega arith) (omega (arith, o)) (omega (arith, k)) (omega arith) (omega arith)) (λ k.
+      spells-four 8 0xf4 0xf4 0x80 0x8f refl (omega arith) (omega (arith, k)) (omega (arith, most)) (omega arith) (omega (arith, k, most))))))))
 
 -- a scalar value is below the surrogates or above them
 scalar-apart : (c : ℕ) → isScalar c ≡ true → (c < 0xd800) ⊎ (0xe000 ≤ c)
@@ -157,7 +157,7 @@ back-two a b t =
 -- three: a line of which is known that its numbers are at least 800, and no surrogates
 module _ (low high lower higher : ℕ) (low-is : 0xe0 ≤ low) (high-is : high ≤ 0xef) (lower-is : 0x80 ≤ lower) (higher-is : higher ≤ 0xbf)
     (apart : (a b : ℕ) → low ≤ a → a ≤ high → lower ≤ b → b ≤ higher → (d : ℕ) → d < 64 → (0x800 ≤ ((a - 0xe0) * 64 + (b - 0x80)) * 64 + d)
-        × ((((a - 0xe0) * 64 + (b - 0x80)) * 64 + d < 0xd800) ⊎ (0xe000 ≤ ((a - 0xe0) * 64 + (b - 0x80)) * 64 + d))) where
+    × ((((a - 0xe0) * 64 + (b - 0x80)) * 64 + d < 0xd800) ⊎ (0xe000 ≤ ((a - 0xe0) * 64 + (b - 0x80)) * 64 + d))) where
   back-three : (a b e : ℕ) → T (begin (low to high ∷ lower to higher ∷ 0x80 to 0xbf ∷ []) (a ∷ b ∷ e ∷ [])) → Back (a ∷ b ∷ e ∷ []) (pointOf (a ∷ b ∷ e ∷ []))
   back-three a b e t =
       let p = front low high a (lower to higher ∷ 0x80 to 0xbf ∷ []) (b ∷ e ∷ []) t in
