@@ -1,4 +1,5 @@
--- The row that a line of characters shows (the line programs `read` and `steps`). In order: the byte of a character; the row; the promise. Assumes nothing.
+-- The row that a line of characters shows (the line programs `read` and `steps`). In order: the byte of a character; the row; the promise. Not here: the code points of a line
+-- (crate `utf8`). Assumes nothing.
 use mathlib.Core.Bool.{cond, _&&_}
 use mathlib.Core.List.{List, map}
 use mathlib.Core.Path.{_≡_}

@@ -1,0 +1,37 @@
+-- What is proved of printing, as types; each is proved under the same name with hyphens in proofs/Claims.antt. In order: one outcome; what is printed from the front of
+-- what was lent; part behind part; worked forms. Assumes nothing.
+use mathlib.Core.List.{List, [], _∷_, _++_}
+use mathlib.Core.Path.{_≡_}
+use Prim.Native.Nat.{ℕ, _+_, _≤_}
+use lib.ListN.{length, take}
+use Rattle.rows.specs.Laid.{laid}
+use Rattle.rules.specs.Cells.{print}
+use Rattle.printing.specs.Printed.{decimalOf, bytesOfText, charactersOf, lineEnd, okLine, refusalLine, longLine, Prints}
+
+-- "any two results allowed by one statement are proved equal": where there is room for all that is printed
+abbrev pub OnePrinted : Type 0
+OnePrinted =
+    (l : List ℕ) (at : ℕ) (x : List ℕ) (r s : ℕ) (new old : List ℕ) → at + length x ≤ length l
+    → Prints l at x r new → Prints l at x s old → (r ≡ s) × (new ≡ old)
+
+-- From the front: what is printed is what stands before the place that is answered, and behind it all is as it was.
+abbrev pub PrintedInFront : Type 0
+PrintedInFront =
+    (l x : List ℕ) (r : ℕ) (new : List ℕ) → length x ≤ length l → Prints l 0 x r new → (take r new ≡ x) × (new ≡ laid x l)
+
+-- Part behind part is the whole, also where there is no room for it.
+abbrev pub PrintedOn : Type 0
+PrintedOn =
+    (l : List ℕ) (at : ℕ) (x : List ℕ) (m : ℕ) (mid y : List ℕ) (r : ℕ) (new : List ℕ) → Prints l at x m mid → Prints mid m y r new → Prints l at (x ++ y) r new
+
+-- "no 2 0"; the least and the greatest number; "ok" with the row of `8b`, in characters U+283C, U+2813, U+2803; "ok" with text; "long"
+abbrev pub WorkedForms : Type 0
+WorkedForms =
+    (refusalLine 2 0 ≡ print "no 2 0" ++ lineEnd ∷ [])
+    × (refusalLine 6 12288 ≡ print "no 6 12288" ++ lineEnd ∷ [])
+    × (decimalOf 0 ≡ print "0")
+    × (decimalOf 18446744073709551615 ≡ print "18446744073709551615")
+    × (okLine (charactersOf (0x3c ∷ 0x13 ∷ 0x03 ∷ []))
+    ≡ print "ok " ++ 0xe2 ∷ 0xa0 ∷ 0xbc ∷ 0xe2 ∷ 0xa0 ∷ 0x93 ∷ 0xe2 ∷ 0xa0 ∷ 0x83 ∷ lineEnd ∷ [])
+    × (okLine (bytesOfText (print "8 ñ")) ≡ print "ok 8 " ++ 0xc3 ∷ 0xb1 ∷ lineEnd ∷ [])
+    × (longLine ≡ print "long" ++ lineEnd ∷ [])
