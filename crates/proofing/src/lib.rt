@@ -10,7 +10,9 @@ use printing::put_point;
 use printing::put_refusal;
 ghost use Prim.Native.Nat.{_≤_};
 ghost use lib.ListN.{length};
-ghost use Rattle.proofing.specs.Steps.{StepsLine};
+ghost use Rattle.printing.specs.Printed.{Prints};
+ghost use Rattle.proofing.specs.Steps.{signLine, StepsLine};
+ghost use Rattle.proofing.specs.Walk.{shownText, Accepted, SignsPrinted};
 
 // The number that no refusal has.
 const DONE: usize = 0;
@@ -18,7 +20,9 @@ const DONE: usize = 0;
 const COLON: u8 = b':';
 
 // A sign: "a blank and PLACE:PRINT"
-fn put_sign(out: &mut [u8], at: usize, place: usize, sign: Sign) -> usize {
+fn put_sign(out: &mut [u8], at: usize, place: usize, sign: Sign) -> usize
+    ensures { λ r. ⌜ Prints (now (out .entry)) at (signLine place (shownText sign)) r (now (out .exit)) ⌝ }
+{
     let mut end = put(out, at, BLANK);
     end = put_number(out, end, place);
     end = put(out, end, COLON);
@@ -29,8 +33,11 @@ fn put_sign(out: &mut [u8], at: usize, place: usize, sign: Sign) -> usize {
     put_point(out, end, sign.then)
 }
 
-// The signs of a row from a place on, each by a step that is given the row and the place alone.
-fn put_signs(out: &mut [u8], at: usize, row: &[u8]) -> usize {
+// The signs of an accepted row, each by a step that is given the row and the place alone.
+fn put_signs(out: &mut [u8], at: usize, row: &[u8]) -> usize
+    requires { ⌜ Accepted (now row) ⌝ }
+    ensures { λ r. ⌜ SignsPrinted (now (row .entry)) (now (out .entry)) at r (now (out .exit)) ⌝ }
+{
     let mut end = at;
     let mut place = 0;
     while place < row.len() {

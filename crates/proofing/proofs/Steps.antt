@@ -1,0 +1,158 @@
+-- The laws that the functions cite. In order: a sign printed, part behind part; what the first step tells of the row, that it is accepted or why it is refused; the ends of
+-- `steps_line`. Not here: the walk over the signs (`Walk`). Assumes nothing.
+use mathlib.Core.Path.{_≡_, refl, sym, ap, _∙_, subst}
+use mathlib.Core.List.{List, [], _∷_, _++_, append-assoc, append-nil}
+use mathlib.Core.Logic.{_⊎_, inl, inr}
+use mathlib.Core.Option.{some}
+use Prim.Native.Nat.{ℕ, _≤_, _<_}
+use native.Mathlib.Omega.{arith}
+use lib.ListN.{length, take}
+use borrow.Author.Tests.{eq-eqb, ne-eqb, lt-ltb, le-ltb}
+use Rattle.rows.specs.Laid.{laid}
+use Rattle.rows.proofs.Laid.{front}
+use Rattle.rules.specs.Cells.{Text, Row, print}
+use Rattle.rules.specs.Castilian.{castilian}
+use Rattle.rules.specs.Places.{lacksSign, breaksPair, outsideForm, sharesCells}
+use Rattle.rules.specs.Rows.{signsOf}
+use Rattle.rules.specs.Refusals.{Refusal, tooLong, atFault, needsRoom, notACell, noText, numberOf, secondOf}
+use Rattle.rules.specs.Answers.{ReadsAs, RowRefused}
+use Rattle.rules.specs.Screen as screen
+use Rattle.rules.specs.Screen.{StepAnswer, shows, stays, Stepped, stepped, stayed}
+use Rattle.reader.specs.declared.Answer.{Answer}
+use Rattle.reader.specs.declared.Shown as step
+use Rattle.reader.specs.Promise.{refusalOf, numbersOf, Shows, sign-there, no-sign-there, row-refused}
+use Rattle.reader.proofs.Points.{known}
+use Rattle.desk.specs.declared.Sign as desk
+use Rattle.desk.specs.Shows.{readOf, pointsOf, signOf, ShowsSign}
+use Rattle.utf8.specs.Decoding.{decoded}
+use Rattle.utf8.specs.Encoding.{encodedOf}
+use Rattle.printing.specs.Printed.{decimalOf, lineEnd, blank, refusalLine, Prints}
+use Rattle.printing.proofs.Printed.{prints-as, prints-on}
+use Rattle.patterns.specs.Patterns.{rowOf, ShowsRow}
+use Rattle.proofing.specs.Steps.{colon, signLine, signLines, StepsPrints, prints-signs, prints-refusal, StepsLine}
+use Rattle.proofing.specs.Walk.{shownText, Accepted, SignsPrinted}
+
+-- A SIGN, PRINTED. The parts are joined from the left, the line is written to the right.
+one-point : (x e : List ℕ) → (x ++ colon ∷ []) ++ e ≡ x ++ colon ∷ (e ++ [])
+one-point x e = append-assoc x (colon ∷ []) e ∙ ap (λ (y : List ℕ). x ++ colon ∷ y) (sym (append-nil e))
+
+two-points : (x e f : List ℕ) → ((x ++ colon ∷ []) ++ e) ++ f ≡ x ++ colon ∷ (e ++ (f ++ []))
+two-points x e f =
+    append-assoc (x ++ colon ∷ []) e f
+    ∙ append-assoc x (colon ∷ []) (e ++ f)
+    ∙ ap (λ (y : List ℕ). x ++ colon ∷ (e ++ y)) (sym (append-nil f))
+
+module _ (place : ℕ) (s : desk.Sign) (l : List ℕ) (at a : ℕ) (la : List ℕ) (b : ℕ) (lb : List ℕ) (d : ℕ) (ld : List ℕ) (e : ℕ) (le : List ℕ)
+    (first : Prints l at (blank ∷ []) a la) (second : Prints la a (decimalOf place) b lb) (third : Prints lb b (colon ∷ []) d ld)
+    (fourth : Prints ld d (encodedOf (s .first)) e le) where
+  begun : Prints l at ((blank ∷ decimalOf place ++ colon ∷ []) ++ encodedOf (s .first)) e le
+  begun =
+      prints-on l at (blank ∷ decimalOf place ++ colon ∷ []) d ld (encodedOf (s .first)) e le
+      (prints-on l at (blank ∷ decimalOf place) b lb (colon ∷ []) d ld (prints-on l at (blank ∷ []) a la (decimalOf place) b lb first second) third)
+      fourth
+
+  pub sign-one : s .second < 2 → Prints l at (signLine place (shownText s)) e le
+  sign-one h = rw (lt-ltb (s .second) 2 h) (prints-as l at _ _ e le (one-point (blank ∷ decimalOf place) (encodedOf (s .first))) begun)
+
+  pub sign-two : 2 ≤ s .second → (f : ℕ) (lf : List ℕ) → Prints le e (encodedOf (s .then)) f lf → Prints l at (signLine place (shownText s)) f lf
+  sign-two h f lf fifth =
+      rw (le-ltb (s .second) 2 h)
+      (prints-as l at _ _ f lf (two-points (blank ∷ decimalOf place) (encodedOf (s .first)) (encodedOf (s .then)))
+      (prints-on l at ((blank ∷ decimalOf place ++ colon ∷ []) ++ encodedOf (s .first)) e le (encodedOf (s .then)) f lf begun fifth))
+
+-- WHAT THE FIRST STEP TELLS. No refusal has the number 0.
+no-nought : (x : Refusal) → numberOf x ≡ 0 → ⊥
+unfolding numberOf
+no-nought (tooLong n) e = omega (arith, e)
+no-nought (atFault lacksSign n) e = omega (arith, e)
+no-nought (atFault breaksPair n) e = omega (arith, e)
+no-nought (atFault outsideForm n) e = omega (arith, e)
+no-nought (atFault sharesCells n) e = omega (arith, e)
+no-nought (needsRoom n) e = omega (arith, e)
+no-nought (notACell n) e = omega (arith, e)
+no-nought noText e = omega (arith, e)
+
+sign-number : (lead point next : ℕ) → pointsOf lead point next .number ≡ 0
+sign-number lead point next = go (known lead)
+  where
+    go : (lead ≡ 0) ⊎ (lead ≡ 0 → ⊥) → pointsOf lead point next .number ≡ 0
+    go (inl e) = rw (eq-eqb lead 0 e) refl
+    go (inr e) = rw (ne-eqb lead 0 e) refl
+
+numbers-are : (a : Answer) (x : Refusal) → refusalOf a ≡ some x → (numbersOf a .0 ≡ numberOf x) × (numbersOf a .1 ≡ secondOf x)
+unfolding numbersOf
+numbers-are a x e = rw e (refl, refl)
+
+module _ (r : Row) (n : ℕ) where
+  accepted-of : (x : screen.Shown) → Stepped castilian r n (shows x) → Accepted r
+  accepted-of x (stepped t h) = (t, h)
+
+  refused-of : (x : Refusal) → Stepped castilian r n (stays x) → RowRefused castilian r x
+  refused-of x (stayed y h) = h
+
+  -- the row is accepted; or why it is refused, by the two numbers
+  pub record Refused (g : desk.Sign) : Type 0 where
+    pub refusal : Refusal
+    pub right : RowRefused castilian r refusal
+    pub number : g .number ≡ numberOf refusal
+    pub second : g .second ≡ secondOf refusal
+
+  abbrev Told : desk.Sign → Type 0
+  Told g = ((g .number ≡ 0) × Accepted r) ⊎ Refused g
+
+  told : (s : step.Shown) → Shows castilian r n s → Told (signOf n s)
+  unfolding signOf readOf
+  told s (sign-there lead point next d) = inl (sign-number lead point next, accepted-of _ d)
+  told s (no-sign-there d) = inl (refl, accepted-of _ d)
+  told s (row-refused a x e d) =
+      let k = numbers-are a x e in
+      inr (record { refusal = x; right = refused-of x d; number = k .0; second = k .1 })
+
+  told-of : (g : desk.Sign) → ShowsSign castilian r n g → Told g
+  told-of g h = subst Told (sym (h .shows)) (told (h .shown) (h .promise))
+
+  pub refused-by : (g : desk.Sign) → ShowsSign castilian r n g → (g .number ≡ 0 → ⊥) → Refused g
+  refused-by g h not-nought = go (told-of g h)
+    where
+      go : Told g → Refused g
+      go (inl a) = absurd (not-nought (a .0))
+      go (inr x) = x
+
+  pub accepted-by : (g : desk.Sign) → ShowsSign castilian r n g → g .number ≡ 0 → Accepted r
+  accepted-by g h none = go (told-of g h)
+    where
+      go : Told g → Accepted r
+      go (inl a) = a .1
+      go (inr x) = absurd (no-nought (x .refusal) (sym (x .number) ∙ none))
+
+-- THE ENDS OF `steps_line`: n cells of `row` are those of the line
+module _ (line points row out points' row' : List ℕ) (n : ℕ) (shown : ShowsRow line points row n points' row') where
+  pub row-is : take n row' ≡ rowOf line
+  row-is = front (rowOf line) row row' n (shown .count) (shown .cells)
+
+  pub row-count : n ≡ length (take n row')
+  row-count = shown .count ∙ sym (ap length row-is)
+
+  ended : (p : List ℕ) → StepsPrints line p → (r : ℕ) (out' : List ℕ) → Prints out 0 p r out'
+      → StepsLine line points row out r points' row' out' × (r ≤ length out')
+  ended p right r out' prints = (
+    record { decoding = shown .decoding; cells = shown .cells; printed = p; right = right; prints = prints },
+    omega (arith, prints .same, prints .within (omega arith)),
+  )
+
+  pub ends-refused : (g : desk.Sign) → ShowsSign castilian (take n row') 0 g → (g .number ≡ 0 → ⊥)
+      → (r : ℕ) (out' : List ℕ) → Prints out 0 (refusalLine (g .number) (g .second)) r out' → StepsLine line points row out r points' row' out' × (r ≤ length out')
+  ends-refused g h not-nought r out' p =
+      let x = refused-by (take n row') 0 g h not-nought in
+      ended (refusalLine (numberOf (x .refusal)) (secondOf (x .refusal)))
+      (prints-refusal (x .refusal) (subst (λ (k : Row). RowRefused castilian k (x .refusal)) row-is (x .right))) r out'
+      (prints-as out 0 _ _ r out' (ap (λ (k : ℕ). refusalLine k (g .second)) (x .number) ∙ ap (refusalLine (numberOf (x .refusal))) (x .second)) p)
+
+  pub ends-accepted : (a : ℕ) (la : List ℕ) (b : ℕ) (lb : List ℕ) (r : ℕ) (out' : List ℕ)
+      → Prints out 0 (print "ok") a la → SignsPrinted (take n row') la a b lb → Prints lb b (lineEnd ∷ []) r out'
+      → StepsLine line points row out r points' row' out' × (r ≤ length out')
+  ends-accepted a la b lb r out' first signs last =
+      let lines : List ℕ = signLines 0 (signsOf castilian (signs .text)) in
+      ended (print "ok" ++ lines ++ lineEnd ∷ [])
+      (prints-signs (signs .text) (subst (λ (k : Row). ReadsAs castilian k (signs .text)) row-is (signs .reads))) r out'
+      (prints-on out 0 (print "ok" ++ lines) b lb (lineEnd ∷ []) r out' (prints-on out 0 (print "ok") a la lines b lb first (signs .prints)) last)
