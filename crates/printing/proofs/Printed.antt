@@ -1,22 +1,25 @@
--- Bytes printed at a place, one behind another. In order: nothing; one part behind another (`prints-on`: where there is room for both there is room for the first);
+-- Bytes printed at a place, one behind another. In order: nothing; one part behind another (`prints-on`);
 -- the same from the front of what is lent; two allowed results; one byte; between two parts of a loop (`Mid`): whatever prints what is still to come from here
 -- prints the whole; the parts of a line. Assumes nothing.
 use mathlib.Core.List.{List, [], _∷_, _++_}
+use mathlib.Core.Logic.{⊎-elim}
 use mathlib.Core.Path.{_≡_, refl, sym, ap, subst, _∙_}
 use Prim.Native.Nat.{ℕ, suc, _+_, _≤_, _<_}
 use native.Mathlib.Omega.{arith}
 use native.Mathlib.Nat.{zero-add}
 use lib.ListN.{length, getD, take, drop, set, length-append, length-set, drop-of-length-le}
-use lib.Seq.{sets, sets-eq, drop-cons, take-all}
+use lib.Seq.{sets, length-sets, sets-eq, set-out, drop-cons, take-all}
 use Rattle.rows.specs.Laid.{laid}
 use Rattle.rows.proofs.Laid.{front}
 use Rattle.rules.specs.Cells.{print}
+use Rattle.rules.proofs.Finite.{le-or-lt}
 use Rattle.utf8.specs.Encoding.{encodedOf, Encoded}
+use Rattle.utf8.proofs.Decoding.{stored-past}
 use Rattle.printing.specs.Printed.{decimalOf, bytesOfText, charactersOf, lineEnd, blank, refusalLine, longLine, Prints}
 
 -- NOTHING
 pub prints-none : (l : List ℕ) (at : ℕ) → Prints l at [] at l
-prints-none l at = record { same = refl; within = λ h. h; place = λ h. omega arith; stored = λ h. refl }
+prints-none l at = record { place = omega arith; stored = refl }
 
 -- ONE PART BEHIND ANOTHER
 pub sets-on : (x y l : List ℕ) (at : ℕ) → sets l at (x ++ y) ≡ sets (sets l at x) (at + length x) y
@@ -25,23 +28,30 @@ sets-on (a ∷ x) y l at =
     let e : at + suc (length x) ≡ suc at + length x = omega arith in
     rw e (sets-on x y (set l at a) (suc at))
 
+-- what is printed changes no length, and the place stays inside
+pub prints-same : (l : List ℕ) (at : ℕ) (x : List ℕ) (r : ℕ) (new : List ℕ) → Prints l at x r new → length new ≡ length l
+prints-same l at x r new p = ap length (p .stored) ∙ length-sets l at x
+
+pub prints-within : (l : List ℕ) (at : ℕ) (x : List ℕ) (r : ℕ) (new : List ℕ) → Prints l at x r new → at ≤ length l → r ≤ length new
+prints-within l at x r new p h = omega (arith, h, p .place, prints-same l at x r new p)
+
 pub prints-on : (l : List ℕ) (at : ℕ) (x : List ℕ) (m : ℕ) (mid y : List ℕ) (r : ℕ) (new : List ℕ)
     → Prints l at x m mid → Prints mid m y r new → Prints l at (x ++ y) r new
 prints-on l at x m mid y r new p q = record {
-  same = q .same ∙ p .same;
-  within = λ h. subst (λ (k : ℕ). r ≤ k) (p .same) (q .within (subst (λ (k : ℕ). m ≤ k) (sym (p .same)) (p .within h)));
-  place = λ h. omega (arith, q .place (behind h), p .place (first h), length-append x y);
-  stored = λ h. q .stored (behind h)
-      ∙ ap (λ (k : ℕ). sets mid k y) (p .place (first h))
-      ∙ ap (λ (k : List ℕ). sets k (at + length x) y) (p .stored (first h))
-      ∙ sym (sets-on x y l at);
+  place = omega (arith, p .place, q .place, prints-same l at x m mid p, length-append x y);
+  stored = q .stored ∙ ⊎-elim fit past (le-or-lt (at + length x) (length l)) ∙ ap (λ (k : List ℕ). sets k (at + length x) y) (p .stored) ∙ sym (sets-on x y l at);
 }
   where
-    first : at + length (x ++ y) ≤ length l → at + length x ≤ length l
-    first h = omega (arith, h, length-append x y)
+    long : length mid ≡ length l
+    long = prints-same l at x m mid p
 
-    behind : at + length (x ++ y) ≤ length l → m + length y ≤ length mid
-    behind h = omega (arith, h, length-append x y, p .place (first h), p .same)
+    -- there is room for the first part: the second begins behind it
+    fit : at + length x ≤ length l → sets mid m y ≡ sets mid (at + length x) y
+    fit h = ap (λ (k : ℕ). sets mid k y) (omega (arith, h, p .place))
+
+    -- there is none: nothing is stored any more
+    past : length l < at + length x → sets mid m y ≡ sets mid (at + length x) y
+    past h = stored-past y mid m (omega (arith, h, p .place, long)) ∙ sym (stored-past y mid (at + length x) (omega (arith, h, long)))
 
 -- the same bytes
 pub prints-as : (l : List ℕ) (at : ℕ) (x y : List ℕ) (r : ℕ) (new : List ℕ) → x ≡ y → Prints l at x r new → Prints l at y r new
@@ -51,23 +61,22 @@ prints-as l at x y r new e p = subst (λ (t : List ℕ). Prints l at t r new) e 
 pub prints-laid : (l x : List ℕ) (r : ℕ) (new : List ℕ) → Prints l 0 x r new → length x ≤ length l → new ≡ laid x l
 prints-laid l x r new p h =
     let room : 0 + length x ≤ length l = omega (arith, h) in
-    p .stored room ∙ sets-eq x l 0 room ∙ ap (λ (k : ℕ). x ++ drop k l) (zero-add (length x))
+    p .stored ∙ sets-eq x l 0 room ∙ ap (λ (k : ℕ). x ++ drop k l) (zero-add (length x))
 
 pub prints-front : (l x : List ℕ) (r : ℕ) (new : List ℕ) → Prints l 0 x r new → length x ≤ length l → take r new ≡ x
 prints-front l x r new p h =
-    front x l new r (p .place (omega (arith, h)) ∙ zero-add (length x)) (prints-laid l x r new p h)
+    front x l new r (omega (arith, h, p .place)) (prints-laid l x r new p h)
 
--- "any two results allowed by one statement are proved equal", where there is room for all
-pub one-printed : (l : List ℕ) (at : ℕ) (x : List ℕ) (r s : ℕ) (new old : List ℕ) → at + length x ≤ length l
-    → Prints l at x r new → Prints l at x s old → (r ≡ s) × (new ≡ old)
-one-printed l at x r s new old room p q = (p .place room ∙ sym (q .place room), p .stored room ∙ sym (q .stored room))
+-- "any two results allowed by one statement are proved equal"
+pub one-printed : (l : List ℕ) (at : ℕ) (x : List ℕ) (r s : ℕ) (new old : List ℕ) → Prints l at x r new → Prints l at x s old → (r ≡ s) × (new ≡ old)
+one-printed l at x r s new old p q = (p .place ∙ sym (q .place), p .stored ∙ sym (q .stored))
 
 -- ONE BYTE: stored where there is room, and else left out
 pub prints-byte : (l : List ℕ) (at byte : ℕ) → at < length l → Prints l at (byte ∷ []) (at + 1) (set l at byte)
-prints-byte l at byte h = record { same = length-set l at byte; within = λ k. omega (arith, h); place = λ k. refl; stored = λ k. refl }
+prints-byte l at byte h = record { place = omega (arith, h); stored = refl }
 
 pub prints-nowhere : (l : List ℕ) (at byte : ℕ) → length l ≤ at → Prints l at (byte ∷ []) at l
-prints-nowhere l at byte h = record { same = refl; within = λ k. k; place = λ k. absurd (omega (arith, h, k)); stored = λ k. absurd (omega (arith, h, k)) }
+prints-nowhere l at byte h = record { place = omega (arith, h); stored = sym (set-out l at byte h) }
 
 -- BETWEEN TWO PARTS of a whole that a loop prints: what is still to come, printed from here on, makes the whole
 pub record Mid (lent : List ℕ) (at : ℕ) (all rest : List ℕ) (place : ℕ) (out : List ℕ) : Type 0 where
@@ -81,7 +90,7 @@ module _ (lent : List ℕ) (at : ℕ) (all : List ℕ) where
   module _ (rest : List ℕ) (place : ℕ) (out : List ℕ) (m : Mid lent at all rest place out) where
     pub mid-on : (x rest' : List ℕ) (place' : ℕ) (out' : List ℕ) → rest ≡ x ++ rest' → Prints out place x place' out' → Mid lent at all rest' place' out'
     mid-on x rest' place' out' e p = record {
-      same = p .same ∙ m .same;
+      same = prints-same out place x place' out' p ∙ m .same;
       whole = λ r new q. m .whole r new (prints-as out place (x ++ rest') rest r new (sym e) (prints-on out place x place' out' rest' r new p q));
     }
 

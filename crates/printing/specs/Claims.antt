@@ -2,17 +2,16 @@
 -- what was lent; part behind part; worked forms. Assumes nothing.
 use mathlib.Core.List.{List, [], _∷_, _++_}
 use mathlib.Core.Path.{_≡_}
-use Prim.Native.Nat.{ℕ, _+_, _≤_}
+use Prim.Native.Nat.{ℕ, _≤_}
 use lib.ListN.{length, take}
 use Rattle.rows.specs.Laid.{laid}
 use Rattle.rules.specs.Cells.{print}
 use Rattle.printing.specs.Printed.{decimalOf, bytesOfText, charactersOf, lineEnd, okLine, refusalLine, longLine, Prints}
 
--- "any two results allowed by one statement are proved equal": where there is room for all that is printed
+-- "any two results allowed by one statement are proved equal"
 abbrev pub OnePrinted : Type 0
 OnePrinted =
-    (l : List ℕ) (at : ℕ) (x : List ℕ) (r s : ℕ) (new old : List ℕ) → at + length x ≤ length l
-    → Prints l at x r new → Prints l at x s old → (r ≡ s) × (new ≡ old)
+    (l : List ℕ) (at : ℕ) (x : List ℕ) (r s : ℕ) (new old : List ℕ) → Prints l at x r new → Prints l at x s old → (r ≡ s) × (new ≡ old)
 
 -- From the front: what is printed is what stands before the place that is answered, and behind it all is as it was.
 abbrev pub PrintedInFront : Type 0

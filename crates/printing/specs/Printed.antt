@@ -1,10 +1,9 @@
 -- Bytes that are printed at a place of a lent slice. In order: numbers in decimal; text in UTF-8; the forms of a printed line (paper 01, "The line program"); what each function
--- promises. Not here: what a line program
--- prints (crate `answers`). Assumes nothing.
+-- promises. Not here: what a line program prints (crates `answers`, `proofing`). Assumes nothing.
 use mathlib.Core.Bool.{cond}
 use mathlib.Core.List.{List, [], _∷_, _++_}
 use mathlib.Core.Path.{_≡_}
-use Prim.Native.Nat.{ℕ, zero, suc, _+_, _/_, _%_, _≤_}
+use Prim.Native.Nat.{ℕ, zero, suc, _+_, _/_, _%_, min, max}
 use lib.Dec.{ltb}
 use lib.ListN.{length}
 use lib.Seq.{sets}
@@ -52,10 +51,8 @@ noLine x = refusalLine (numberOf x) (secondOf x)
 abbrev pub longLine : List ℕ
 longLine = print "long" ++ lineEnd ∷ []
 
--- WHAT PRINTING PROMISES, of bytes x at a place of what was lent: it keeps its length, and no place behind its end is answered. Where there is room for all of x, all
--- of it is stored from that place on, one behind another, nothing else is changed, and the answer is the place behind it.
+-- WHAT PRINTING PROMISES, of bytes x at a place of what was lent: they are stored from that place on, one behind another, as far as there is room (`sets`: a store behind the end changes nothing), and nothing
+-- else is changed; the answer is the place behind them, or the end where there is no room for all.
 pub record Prints (lent : List ℕ) (at : ℕ) (x : List ℕ) (r : ℕ) (new : List ℕ) : Type 0 where
-  pub same : length new ≡ length lent
-  pub within : at ≤ length lent → r ≤ length lent
-  pub place : at + length x ≤ length lent → r ≡ at + length x
-  pub stored : at + length x ≤ length lent → new ≡ sets lent at x
+  pub place : r ≡ max at (min (at + length x) (length lent))
+  pub stored : new ≡ sets lent at x

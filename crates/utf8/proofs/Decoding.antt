@@ -31,7 +31,7 @@ decoded-on bytes at next h e =
     ∙ ap (λ (r : List ℕ). pointAt (drop at bytes) ∷ decoded r) (drop-drop (suc (lengthAt (drop at bytes) - 1)) at bytes ∙ ap (λ (k : ℕ). drop k bytes) (sym e))
 
 -- WHAT IS STORED
-stored-past : (vs l : List ℕ) (i : ℕ) → length l ≤ i → sets l i vs ≡ l
+pub stored-past : (vs l : List ℕ) (i : ℕ) → length l ≤ i → sets l i vs ≡ l
 stored-past [] l i h = refl
 stored-past (v ∷ vs) l i h = rw (set-out l i v h) (stored-past vs l (suc i) (omega (arith, h)))
 
