@@ -1,2 +1,4 @@
 pub mod Walk
 pub mod Steps
+pub mod Room
+pub mod Claims

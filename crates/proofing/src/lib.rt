@@ -48,7 +48,8 @@ fn put_signs(out: &mut [u8], at: usize, row: &[u8]) -> usize
     end
 }
 
-// What `steps` prints for a line.
+// What `steps` prints for a line, at the front of `out`; the code points of the line and its row stand at the front of `points` and `row`. Two wrong programs that the promise shuts
+// out: one that prints the place behind a sign for its own, and one that prints one code point of two.
 pub fn steps_line(line: &[u8], points: &mut [u32], row: &mut [u8], out: &mut [u8]) -> usize
     requires { ⌜ length (now line) ≤ length (now points) ⌝ }
     requires { ⌜ length (now line) ≤ length (now row) ⌝ }

@@ -1,4 +1,5 @@
 -- `put_sign`: four or five parts, each behind the one before. Assumes nothing.
+use native.Mathlib.Omega.{arith}
 use Rattle.proofing.proofs.Steps.{sign-one, sign-two}
 use borrow.Author.Needs.{needs}
 use Rattle.proofing.proofs.put_sign.Statement.{statement}
@@ -31,7 +32,7 @@ returns c =
     let n = p .before .before .before .before in
     let b = n .before .before .before .before in
     let a = b .before .before .before .args in
-    sign-one (a .place) (a .sign) _ _ _ _ _ _ _ _ _ _ (b .put .ensures) (n .put-number .ensures) (p .put2 .ensures) (q .put-point .ensures) (c .if1 .taken)
+    sign-one (a .place) (a .sign) _ _ _ _ _ _ _ _ _ _ (b .put .ensures) (n .put-number .ensures) (p .put2 .ensures) (q .put-point .ensures) (omega (arith, c .if1 .taken))
 
 put-point-requires-2 : tie.Need-put-point-requires-2
 put-point-requires-2 c κs = search needs
@@ -48,7 +49,7 @@ returns-2 c =
     let n = p .before .before .before .before in
     let b = n .before .before .before .before in
     let a = b .before .before .before .args in
-    sign-two (a .place) (a .sign) _ _ _ _ _ _ _ _ _ _ (b .put .ensures) (n .put-number .ensures) (p .put2 .ensures) (q .put-point .ensures) (i .if1 .left) _ _
+    sign-two (a .place) (a .sign) _ _ _ _ _ _ _ _ _ _ (b .put .ensures) (n .put-number .ensures) (p .put2 .ensures) (q .put-point .ensures) (omega (arith, i .if1 .left)) _ _
     (r .put-point2 .ensures)
 
 pub put-sign-spec : {M : Type 1} → statement M

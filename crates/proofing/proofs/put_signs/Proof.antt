@@ -1,5 +1,5 @@
 -- `put_signs`: the invariant is `Walk`, the measure what is left of the row. Assumes nothing.
-use Prim.Native.Nat.{_-_}
+use Prim.Native.Nat.{_-_, _<_, _≤_}
 use native.Mathlib.Omega.{arith}
 use lib.ListN.{length}
 use borrow.Author.Needs.{needs}
@@ -28,25 +28,27 @@ desk-step-requires c κs = search needs
 put-sign-requires : tie.Need-put-sign-requires Inv-loop μ-loop
 put-sign-requires c κs = search needs
 
-loop-less : tie.Need-loop-less Inv-loop μ-loop
-loop-less c =
+-- a turn: the sign that the step shows is printed, and the walk goes on behind it
+turn : (c : tie.After-slice-known2 Inv-loop μ-loop)
+    → let p = c .before .before in
+    let g = p .before .before .desk-step .result in
+    let l = p .before .before .before .before in
+    let a = l .before .before .before .args in
+    Walk (a .row .now) (a .out .now) (a .at) (p .put-sign .last .0) (g .next) (p .put-sign .result) × (l .loop .place < g .next) × (g .next ≤ length (a .row .now))
+turn c =
     let p = c .before .before in
     let d = p .before .before in
     let i = d .before in
     let l = i .before in
-    let s = l .before .before .before in
-    let w = walk-on (s .args .row .now) (s .args .out .now) (s .args .at) (l .loop .out) (l .loop .place) (l .loop .end) (l .loop .inv) (i .loop-test .taken) (d .desk-step .result) (d .desk-step .ensures) (p .put-sign .result) (p .put-sign .last .0) (p .put-sign .ensures) in
-    omega (arith, w .1, w .2, i .loop-test .taken)
+    let a = l .before .before .before .args in
+    walk-on (a .row .now) (a .out .now) (a .at) (l .loop .out) (l .loop .place) (l .loop .end) (l .loop .inv) (i .loop-test .taken) (d .desk-step .result)
+    (d .desk-step .ensures) (p .put-sign .result) (p .put-sign .last .0) (p .put-sign .ensures)
+
+loop-less : tie.Need-loop-less Inv-loop μ-loop
+loop-less c = let i = c .before .before .before .before .before in omega (arith, turn c .1, turn c .2, i .loop-test .taken)
 
 loop-again : tie.Need-loop-again Inv-loop μ-loop
-loop-again c =
-    let p = c .before .before in
-    let d = p .before .before in
-    let i = d .before in
-    let l = i .before in
-    let s = l .before .before .before in
-    let w = walk-on (s .args .row .now) (s .args .out .now) (s .args .at) (l .loop .out) (l .loop .place) (l .loop .end) (l .loop .inv) (i .loop-test .taken) (d .desk-step .result) (d .desk-step .ensures) (p .put-sign .result) (p .put-sign .last .0) (p .put-sign .ensures) in
-    w .0
+loop-again c = turn c .0
 
 same-length : tie.Need-same-length Inv-loop μ-loop
 same-length c = c .before .loop .inv .printed .same
