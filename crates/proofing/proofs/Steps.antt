@@ -27,7 +27,7 @@ use Rattle.desk.specs.Shows.{readOf, pointsOf, signOf, ShowsSign}
 use Rattle.utf8.specs.Decoding.{decoded}
 use Rattle.utf8.specs.Encoding.{encodedOf}
 use Rattle.printing.specs.Printed.{decimalOf, lineEnd, blank, refusalLine, Prints}
-use Rattle.printing.proofs.Printed.{prints-as, prints-on}
+use Rattle.printing.proofs.Printed.{prints-as, prints-on, prints-within}
 use Rattle.patterns.specs.Patterns.{rowOf, ShowsRow}
 use Rattle.proofing.specs.Steps.{colon, signLine, signLines, StepsPrints, prints-signs, prints-refusal, StepsLine}
 use Rattle.proofing.specs.Walk.{shownText, Accepted, SignsPrinted}
@@ -137,7 +137,7 @@ module _ (line points row out points' row' : List ℕ) (n : ℕ) (shown : ShowsR
       → StepsLine line points row out r points' row' out' × (r ≤ length out')
   ended p right r out' prints = (
     record { decoding = shown .decoding; cells = shown .cells; printed = p; right = right; prints = prints },
-    omega (arith, prints .same, prints .within (omega arith)),
+    prints-within out 0 p r out' prints (omega arith),
   )
 
   pub ends-refused : (g : desk.Sign) → ShowsSign castilian (take n row') 0 g → (g .number ≡ 0 → ⊥)
