@@ -23,7 +23,7 @@ use Rattle.desk.specs.declared.Shown.{Shown}
 use Rattle.desk.specs.Shows.{shownOf, Shows, readOf, ShowsRead}
 use Rattle.utf8.specs.Decoding.{decoded, Decoded}
 use Rattle.printing.specs.Printed.{bytesOfText, charactersOf, lineEnd, blank, okLine, refusalLine, noLine, Prints}
-use Rattle.printing.proofs.Printed.{prints-on, prints-as}
+use Rattle.printing.proofs.Printed.{prints-on, prints-as, prints-within}
 use Rattle.patterns.specs.Patterns.{rowOf, ShowsRow}
 use Rattle.answers.specs.Lines.{TranscribePrints, ReadPrints, prints-cells, prints-text, prints-refusal, TranscribesLine, ReadsLine}
 
@@ -141,7 +141,7 @@ module _ (r : Row) (text : List ℕ) (s : Shown) where
 -- THE PRINTED LINE: that of a refusal; `ok`, a blank, what is given and the line's end
 module _ (out : List ℕ) (r : ℕ) (out' : List ℕ) where
   pub line-within : (x : List ℕ) → Prints out 0 x r out' → r ≤ length out'
-  line-within x p = omega (arith, p .same, p .within (omega arith))
+  line-within x p = prints-within out 0 x r out' p (omega arith)
 
   line-no : (answers : rules.Answer → Type 0) (s : Shown) → (w : Refused answers s) → Prints out 0 (refusalLine (s .number) (s .second)) r out'
       → Prints out 0 (noLine (w .0)) r out'

@@ -12,18 +12,8 @@ ghost use Prim.Native.Nat.{_≤_};
 ghost use lib.ListN.{length};
 ghost use Rattle.answers.specs.Lines.{TranscribesLine, ReadsLine};
 
-// "A line above 16,384 bytes, its end not counted, prints `long`": of print; and so that a row of 12,288 cells of three bytes each is no long line, of cells
-pub const LONGEST_PRINT_LINE: usize = 16384;
-
-pub const LONGEST_ROW_LINE: usize = 40960;
-
-// "Lent room is 12,288": cells; and code points, for the way back
-pub const ROOM_FOR_CELLS: usize = 12288;
-
-pub const ROOM_FOR_TEXT: usize = 4096;
-
 // The number that no refusal has.
-pub const DONE: usize = 0;
+const DONE: usize = 0;
 
 // What `transcribe` prints for a line: "`ok`, a blank and one character U+2800 plus the cell for each cell; or `no`, .."
 pub fn transcribe_line(line: &[u8], points: &mut [u32], row: &mut [u8], out: &mut [u8]) -> usize
