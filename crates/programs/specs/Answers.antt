@@ -1,11 +1,13 @@
 -- The line programs as a whole (paper 01, "The line program"; its companions `read` and `steps`). In order: how long a line may be; the answer to a line; the output for an
 -- input; the promise. Not here: what the lines of an input are (crate `lines`), what is printed for one that is not long (crates `answers`, `proofing`). Assumes nothing.
 use mathlib.Core.List.{List, [], _∷_, _++_}
+use mathlib.Core.Path.{_≡_}
 use Prim.Native.Nat.{ℕ, _≤_, _<_}
 use lib.ListN.{length}
 use Rattle.lines.specs.Lines.{linesOf}
 use Rattle.lines.specs.Held.{Holds}
-use Rattle.printing.specs.Printed.{longLine, Prints}
+use Rattle.rows.specs.Laid.{laid}
+use Rattle.printing.specs.Printed.{longLine}
 use Rattle.answers.specs.Lines.{TranscribePrints, ReadPrints}
 use Rattle.proofing.specs.Steps.{StepsPrints}
 use Rattle.programs.specs.declared.Program.{Program}
@@ -43,6 +45,10 @@ pub data OutputFor (p : Program) : List (List ℕ) → List ℕ → Type 0 where
 abbrev pub Output : Program → List ℕ → List ℕ → Type 0
 Output p input out = OutputFor p (linesOf input) out
 
--- THE PROMISE of `answer_line`: whatever line the room shows (`Holds`), what is printed at the front of `out` is an answer to it
+-- no answer has more bytes (`Claims.MostBytes`)
+abbrev pub mostBytes : ℕ
+mostBytes = 106499
+
+-- THE PROMISE of `answer_line`: whatever line the room shows (`Holds`), what is printed is an answer to it, all of it, from the first element of `out` on; behind it `out` is as it was
 abbrev pub AnswersLine : Program → List ℕ → ℕ → List ℕ → ℕ → List ℕ → Type 0
-AnswersLine p room held out r new = (line : List ℕ) → Holds line room held → (x : List ℕ) × AnswerTo p line x × Prints out 0 x r new
+AnswersLine p room held out r new = (line : List ℕ) → Holds line room held → (x : List ℕ) × AnswerTo p line x × (r ≡ length x) × (new ≡ laid x out)

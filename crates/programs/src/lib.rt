@@ -3,7 +3,7 @@
 ghost use mathlib.Core.Path.{_≡_};
 ghost use Prim.Native.Nat.{_≤_};
 ghost use lib.ListN.{length};
-ghost use Rattle.programs.specs.Answers.{longestLine, roomForCells, roomForText, mostBytes, AnswersLine};
+ghost use Rattle.programs.specs.Answers.{longestLine, roomForText, mostBytes, AnswersLine};
 
 pub enum Program {
     // print to cells
@@ -23,6 +23,9 @@ pub const LONGEST_ROW_LINE: usize = 40960;
 pub const ROOM_FOR_CELLS: usize = 12288;
 
 pub const ROOM_FOR_TEXT: usize = 4096;
+
+// No answer has more bytes.
+pub const MOST_BYTES: usize = 106499;
 
 // The most bytes that a program takes as a line.
 pub fn longest_line(program: Program) -> usize
@@ -50,6 +53,7 @@ pub fn answer_line(
     requires { ⌜ 40960 ≤ length (now points) ⌝ }
     requires { ⌜ 40960 ≤ length (now row) ⌝ }
     requires { ⌜ length (now text) ≡ roomForText ⌝ }
+    requires { ⌜ mostBytes ≤ length (now out) ⌝ }
     ensures { λ r. ⌜ AnswersLine program (now (line .entry)) held (now (out .entry)) r (now (out .exit)) ⌝ }
     ensures { λ r. ⌜ r ≤ length (now (out .exit)) ⌝ }
 {
