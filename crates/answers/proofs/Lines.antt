@@ -87,10 +87,10 @@ module _ (answers : rules.Answer → Type 0) (lent : List ℕ) (s : Shown) (new 
   pub given-count : s .second ≡ length (take (s .second) new)
   given-count = g .2 ∙ sym (ap length given-is)
 
-room-for-row : (p : Text) (room : ℕ) (r : Row) → PrintAnswer castilian p room (gives r) → length r ≤ room
+pub room-for-row : (p : Text) (room : ℕ) (r : Row) → PrintAnswer castilian p room (gives r) → length r ≤ room
 room-for-row p room r (transcribed s l e k) = k
 
-room-for-text : (r : Row) (room : ℕ) (t : Text) → RowAnswer castilian r room (gives t) → length t ≤ room
+pub room-for-text : (r : Row) (room : ℕ) (t : Text) → RowAnswer castilian r room (gives t) → length t ≤ room
 room-for-text r room t (read u h k) = k
 
 abbrev pub Printed : Text → List ℕ → rules.Answer → Type 0
