@@ -77,7 +77,7 @@ in-front : (P : List ℕ → Type 0) (out x : List ℕ) (r : ℕ) (out' : List �
     → P (take r out') × (r ≡ length (take r out'))
 in-front P out x r out' h p room =
     let front : take r out' ≡ x = prints-front out x r out' p room in
-    (subst P (sym front) h, p .place (omega (arith, room)) ∙ omega (arith, ap length front))
+    (subst P (sym front) h, omega (arith, room, p .place, ap length front))
 
 pub transcribed-in-front : TranscribedInFront
 transcribed-in-front line points row out r points' row' out' t e room =
