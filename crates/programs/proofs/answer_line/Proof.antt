@@ -44,10 +44,10 @@ held-is e = sym (length-take-le (held e) (line e) (short e))
 
 -- the rooms to work in are as long as the line
 points-room : (e : E) → length (take (held e) (line e)) ≤ length (start e .args .points .now)
-points-room e = omega (arith, held-is e, short e, start e .pre .0, longest-line (start e .args .program), start e .pre .1)
+points-room e = omega (arith, held-is e, short e, start e .pre .0, longest-line (start e .args .program), start e .pre .1 .0)
 
 row-room : (e : E) → length (take (held e) (line e)) ≤ length (start e .args .row .now)
-row-room e = omega (arith, held-is e, short e, start e .pre .0, longest-line (start e .args .program), start e .pre .2)
+row-room e = omega (arith, held-is e, short e, start e .pre .0, longest-line (start e .args .program), start e .pre .1 .1 .0)
 
 is-long-requires : tie.Need-is-long-requires
 is-long-requires c κs = search needs
@@ -62,10 +62,9 @@ returns : tie.Need-returns
 returns c =
     let l = c .before .before in
     let i = l .before .before .before in
-    let s = i .before .before .before .before .before .before in
-    (
-      long-answered (s .args .program) (s .args .line .now) (s .args .held) (s .pre .0) (s .args .out .now) (s .pre .4) (most-bytes (s .args .program)) _ _
-      (sym (i .is-long .ensures) ∙ l .before .before .if1 .taken) (l .long-line .ensures),
+    let s = i .before .before .before .before .before .before in (
+      long-answered (s .args .program) (s .args .line .now) (s .args .held) (s .pre .0) (s .args .out .now) (s .pre .1 .1 .1 .1) (most-bytes (s .args .program)) _ _
+          (sym (i .is-long .ensures) ∙ l .before .before .if1 .taken) (l .long-line .ensures),
       prints-within (s .args .out .now) 0 _ _ _ (l .long-line .ensures) (omega arith),
     )
 
@@ -79,7 +78,7 @@ slice-relend-prefix-transcribe-line : tie.Need-slice-relend-prefix-transcribe-li
 slice-relend-prefix-transcribe-line c = search needs
 
 slice-aggregate-transcribe-line-2 : tie.Need-slice-aggregate-transcribe-line-2
-slice-aggregate-transcribe-line-2 c = sym (length-take-le 12288 (start (c .before .before .before .before .before) .args .row .now) (omega (arith, start (c .before .before .before .before .before) .pre .2)))
+slice-aggregate-transcribe-line-2 c = sym (length-take-le 12288 (start (c .before .before .before .before .before) .args .row .now) (omega (arith, start (c .before .before .before .before .before) .pre .1 .1 .0)))
 
 transcribe-line-requires : tie.Need-transcribe-line-requires
 transcribe-line-requires c κs = points-room (c .before .before .before .before .before .before)
@@ -118,12 +117,11 @@ returns-2 c =
     let s = start e in
     let told = t .before .before .before .before .before in
     let right : Answered (s .args .program) (take (held e) (line e)) (t .transcribe-line .ensures .0 .printed) =
-        subst (λ (p : Program). Answered p (take (held e) (line e)) (t .transcribe-line .ensures .0 .printed)) (sym (told .enum-told .given .1)) 
-        (subst (λ (n : ℕ). TranscribePrints n (take (held e) (line e)) (t .transcribe-line .ensures .0 .printed)) (length-take-le 12288 (s .args .row .now) (omega (arith, s .pre .2)))
-        (t .transcribe-line .ensures .0 .right)) in
-    (
-      line-answered (s .args .program) (line e) (held e) (s .pre .0) (s .args .out .now) (s .pre .4) (most-bytes (s .args .program)) _ _
-      (sym (e .before .is-long .ensures) ∙ e .if1 .left) _ right (t .transcribe-line .ensures .0 .prints),
+    subst (λ (p : Program). Answered p (take (held e) (line e)) (t .transcribe-line .ensures .0 .printed)) (sym (told .enum-told .given .1))
+    (subst (λ (n : ℕ). TranscribePrints n (take (held e) (line e)) (t .transcribe-line .ensures .0 .printed)) (length-take-le 12288 (s .args .row .now) (omega (arith, s .pre .1 .1 .0)))
+    (t .transcribe-line .ensures .0 .right)) in (
+      line-answered (s .args .program) (line e) (held e) (s .pre .0) (s .args .out .now) (s .pre .1 .1 .1 .1) (most-bytes (s .args .program)) _ _
+          (sym (e .before .is-long .ensures) ∙ e .if1 .left) _ right (t .transcribe-line .ensures .0 .prints),
       t .transcribe-line .ensures .1,
     )
 
@@ -146,11 +144,10 @@ returns-3 c =
     let s = start e in
     let told = t .before .before .before .before .before .before in
     let right : Answered (s .args .program) (take (held e) (line e)) (t .read-line .ensures .0 .printed) =
-        subst (λ (p : Program). Answered p (take (held e) (line e)) (t .read-line .ensures .0 .printed)) (sym (told .enum-told2 .given .1)) 
-        (subst (λ (n : ℕ). ReadPrints n (take (held e) (line e)) (t .read-line .ensures .0 .printed)) (s .pre .3) (t .read-line .ensures .0 .right)) in
-    (
-      line-answered (s .args .program) (line e) (held e) (s .pre .0) (s .args .out .now) (s .pre .4) (most-bytes (s .args .program)) _ _
-      (sym (e .before .is-long .ensures) ∙ e .if1 .left) _ right (t .read-line .ensures .0 .prints),
+    subst (λ (p : Program). Answered p (take (held e) (line e)) (t .read-line .ensures .0 .printed)) (sym (told .enum-told2 .given .1))
+    (subst (λ (n : ℕ). ReadPrints n (take (held e) (line e)) (t .read-line .ensures .0 .printed)) (s .pre .1 .1 .1 .0) (t .read-line .ensures .0 .right)) in (
+      line-answered (s .args .program) (line e) (held e) (s .pre .0) (s .args .out .now) (s .pre .1 .1 .1 .1) (most-bytes (s .args .program)) _ _
+          (sym (e .before .is-long .ensures) ∙ e .if1 .left) _ right (t .read-line .ensures .0 .prints),
       t .read-line .ensures .1,
     )
 
@@ -170,10 +167,9 @@ returns-4 c =
     let s = start e in
     let told = t .before .before .before .before .before in
     let right : Answered (s .args .program) (take (held e) (line e)) (t .steps-line .ensures .0 .printed) =
-        subst (λ (p : Program). Answered p (take (held e) (line e)) (t .steps-line .ensures .0 .printed)) (sym (told .enum-told3 .given .1)) (t .steps-line .ensures .0 .right) in
-    (
-      line-answered (s .args .program) (line e) (held e) (s .pre .0) (s .args .out .now) (s .pre .4) (most-bytes (s .args .program)) _ _
-      (sym (e .before .is-long .ensures) ∙ e .if1 .left) _ right (t .steps-line .ensures .0 .prints),
+    subst (λ (p : Program). Answered p (take (held e) (line e)) (t .steps-line .ensures .0 .printed)) (sym (told .enum-told3 .given .1)) (t .steps-line .ensures .0 .right) in (
+      line-answered (s .args .program) (line e) (held e) (s .pre .0) (s .args .out .now) (s .pre .1 .1 .1 .1) (most-bytes (s .args .program)) _ _
+          (sym (e .before .is-long .ensures) ∙ e .if1 .left) _ right (t .steps-line .ensures .0 .prints),
       t .steps-line .ensures .1,
     )
 
