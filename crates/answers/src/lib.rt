@@ -57,11 +57,11 @@ pub fn read_line(
     ensures { λ r. ⌜ r ≤ length (now (out .exit)) ⌝ }
 {
     let cells = row_of(line, points, row);
-    let shown = desk::desk_read(&row[..cells], text);
-    if shown.number != DONE {
-        return put_refusal(out, shown.number, shown.second);
+    let told = desk::desk_read(&row[..cells], text);
+    if told.number != DONE {
+        return put_refusal(out, told.number, told.second);
     }
-    let count = shown.second;
+    let count = told.second;
     let mut at = put_all(out, 0, b"ok");
     at = put(out, at, BLANK);
     at = put_text(out, at, &text[..count]);

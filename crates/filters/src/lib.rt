@@ -1,17 +1,10 @@
 // What the line programs have in common: standard input is read by chunks, each line is answered once its end has come, and each answer is written at once. The
-// memory does not grow with the input. What a line is stands in `lines`, what is printed for it in `answers`.
-use answers::LONGEST_PRINT_LINE;
-use answers::LONGEST_ROW_LINE;
-use answers::ROOM_FOR_CELLS;
-use answers::ROOM_FOR_TEXT;
+// memory does not grow with the input. What a line is stands in `lines`, what is printed for it in `programs`.
 use libc::STDIN_FILENO;
 use libc::STDOUT_FILENO;
-
-pub enum Program {
-    Transcribe,
-    Read,
-    Steps,
-}
+use programs::LONGEST_ROW_LINE;
+use programs::Program;
+use programs::ROOM_FOR_TEXT;
 
 // So many bytes are asked for at once.
 const CHUNK: usize = 65536;
@@ -34,31 +27,7 @@ fn write(bytes: &[u8]) -> bool {
     is_written
 }
 
-// What is printed for a line that has ended.
-fn print(
-    program: Program,
-    line: &[u8],
-    held: usize,
-    points: &mut [u32],
-    row: &mut [u8],
-    text: &mut [u32],
-    out: &mut [u8],
-) -> usize {
-    if lines::is_long(line, held) {
-        return printing::long_line(out);
-    }
-    match program {
-        Program::Transcribe => answers::transcribe_line(
-            &line[..held],
-            points,
-            &mut row[..ROOM_FOR_CELLS],
-            out,
-        ),
-        Program::Read => answers::read_line(&line[..held], points, row, text, out),
-        Program::Steps => proofing::steps_line(&line[..held], points, row, out),
-    }
-}
-
+// Answers a line that has ended.
 fn answer(
     program: Program,
     line: &[u8],
@@ -68,7 +37,7 @@ fn answer(
     text: &mut [u32],
     out: &mut [u8],
 ) -> bool {
-    let n = print(program, line, held, points, row, text, out);
+    let n = programs::answer_line(program, line, held, points, row, text, out);
     write(&out[..n])
 }
 
@@ -140,14 +109,6 @@ fn filter(
     }
 }
 
-fn longest_line(program: Program) -> usize {
-    match program {
-        Program::Transcribe => LONGEST_PRINT_LINE,
-        Program::Read => LONGEST_ROW_LINE,
-        Program::Steps => LONGEST_ROW_LINE,
-    }
-}
-
 pub fn run(program: Program) {
     let mut chunk = [0u8; CHUNK];
     let mut line = [0u8; LONGEST_ROW_LINE];
@@ -155,7 +116,7 @@ pub fn run(program: Program) {
     let mut row = [0u8; LONGEST_ROW_LINE];
     let mut text = [0u32; ROOM_FOR_TEXT];
     let mut out = [0u8; OUT];
-    let longest = longest_line(program);
+    let longest = programs::longest_line(program);
     filter(
         program,
         &mut chunk,

@@ -3,3 +3,5 @@ pub mod Joining
 pub mod Sequences
 pub mod Decoding
 pub mod Encoding
+pub mod Claims
+pub mod Inverse
