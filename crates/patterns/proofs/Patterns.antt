@@ -1,10 +1,9 @@
 -- The row that a line of characters shows: the laws that the functions cite. In order: the byte of a character; between two characters (`Mid`): the bytes still to come, stored
 -- behind those that are, make the whole row; the ends of `row_of`. Not here: the code points of a line (crate `utf8`). Assumes nothing.
-use mathlib.Core.List.{List, [], _∷_, _++_, map}
+use mathlib.Core.List.{List, [], _∷_, map}
 use mathlib.Core.Path.{_≡_, refl, sym, ap, _∙_}
-use Prim.Native.Nat.{ℕ, zero, suc, _+_, _-_, _≤_, _<_}
+use Prim.Native.Nat.{ℕ, suc, _+_, _-_, _≤_, _<_}
 use native.Mathlib.Omega.{arith}
-use native.Mathlib.Nat.{zero-add}
 use lib.ListN.{length, getD, take, drop, set, length-set, length-map, drop-of-length-le}
 use lib.Seq.{drop-cons, take-all, sets}
 use borrow.Author.Tests.{le-leb, lt-leb}

@@ -1,12 +1,15 @@
--- The claims of specs/Claims.antt, each by cases on what is printed; the rules' own demands (crates/rules/proofs/Demands.antt) do the rest. Assumes nothing.
+-- The claims of specs/Claims.antt, each by cases on what is printed; the rules' own demands (crates/rules/proofs/Demands.antt) do the rest. The worked lines are computed.
+-- Assumes nothing.
 use mathlib.Core.Path.{_≡_, refl, sym, ap, _∙_}
 use mathlib.Core.List.{List, [], _∷_, _++_, append-assoc}
-use Prim.Native.Nat.{ℕ}
+use Prim.Native.Nat.{ℕ, _+_, _≤_}
 use native.Mathlib.Omega.{arith}
 use lib.ListN.{length}
-use Rattle.rules.specs.Cells.{Text, Row, print}
+use Rattle.rules.specs.Cells.{Text, dots, print}
 use Rattle.rules.specs.Castilian.{castilian}
-use Rattle.rules.specs.Signs.{Sign, printOf}
+use Rattle.rules.specs.Signs.{signCells, ownCells, lowerCells, Sign, printOf}
+use Rattle.rules.specs.Sorts.{class}
+use Rattle.rules.specs.Places.{near, outcome}
 use Rattle.rules.specs.Rows.{signsOf}
 use Rattle.rules.specs.Refusals.{Refusal}
 use Rattle.rules.specs.Screen as screen
@@ -15,9 +18,11 @@ use Rattle.rules.proofs.Demands.{every-step-answered, one-step-answer, one-text
 use Rattle.reader.proofs.Claims.{returns-the-text}
 use Rattle.utf8.specs.Encoding.{encodedOf}
 use Rattle.printing.specs.Printed.{bytesOfText, lineEnd, noLine}
+use Rattle.printing.proofs.Printed.{prints-as}
+use Rattle.printing.proofs.Claims.{one-printed, printed-in-front}
 use Rattle.patterns.specs.Patterns.{rowOf}
 use Rattle.proofing.specs.Steps.{signLines, StepsPrints, prints-signs, prints-refusal}
-use Rattle.proofing.specs.Claims.{EveryLineStepped, OneSteppedLine, printParts, StepsJoinToText, RoomEnough}
+use Rattle.proofing.specs.Claims.{EveryLineStepped, OneSteppedLine, printParts, StepsJoinToText, RoomEnough, WholeLinePrinted, OneOutcome, WorkedSteps}
 use Rattle.proofing.proofs.Room.{signs-room, refusal-room}
 
 -- what is printed follows from the answer to a step
@@ -61,3 +66,20 @@ steps-join-to-text line t h = (
 pub room-enough : RoomEnough
 room-enough line p (prints-signs t h) = signs-room (rowOf line) t h
 room-enough line p (prints-refusal x h) = (omega (arith, refusal-room x), omega (arith, refusal-room x))
+
+pub whole-line-printed : WholeLinePrinted
+whole-line-printed line points row out r points' row' out' a room p right =
+    let e : a .printed ≡ p = one-stepped-line line (a .printed) p (a .right) right in
+    let fits : length p ≤ length out = omega (arith, room, room-enough line p right .1) in
+    printed-in-front out p r out' fits (prints-as out 0 (a .printed) p r out' e (a .prints))
+
+pub one-outcome : OneOutcome
+one-outcome line points row out r s points' row' out' points'' row'' out'' room a b =
+    let e : a .printed ≡ b .printed = one-stepped-line line (a .printed) (b .printed) (a .right) (b .right) in
+    let fits : 0 + length (b .printed) ≤ length out = omega (arith, room, room-enough line (b .printed) (b .right) .1) in
+    let o = one-printed out 0 (b .printed) r s out' out'' fits (prints-as out 0 (a .printed) (b .printed) r out' e (a .prints)) (b .prints) in
+    (o .0, a .decoding ∙ sym (b .decoding), a .cells ∙ sym (b .cells), o .1)
+
+pub worked-steps : WorkedSteps
+unfolding signsOf castilian dots signCells ownCells lowerCells encodedOf outcome class near
+worked-steps = (refl, refl, refl)

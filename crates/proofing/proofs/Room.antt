@@ -2,7 +2,7 @@
 -- has one or two; a line. Assumes nothing.
 use mathlib.Core.Bool.{Bool, true, false, cond}
 use mathlib.Core.List.{List, [], _∷_, _++_}
-use mathlib.Core.Path.{_≡_, refl, ap}
+use mathlib.Core.Path.{ap}
 use Prim.Native.Nat.{ℕ, zero, suc, _+_, _*_, _/_, _%_, _≤_}
 use native.Mathlib.Omega.{arith}
 use lib.Dec.{ltb}
@@ -20,6 +20,7 @@ use Rattle.reader.proofs.Visiting.{Coded, coded-text}
 use Rattle.utf8.specs.Encoding.{isScalar, bytesOf, encodedOf}
 use Rattle.printing.specs.Printed.{digitsOf, decimalOf, bytesOfText, lineEnd, blank, noLine}
 use Rattle.proofing.specs.Steps.{colon, signLine, signLines}
+use Rattle.proofing.specs.Claims.{roomForSteps}
 
 digits-few : (fuel n : ℕ) → length (digitsOf fuel n) ≤ fuel
 digits-few zero n = omega arith
@@ -82,7 +83,7 @@ one-or-two (s ∷ ss) c =
 
 -- A LINE
 pub signs-room : (r : Row) (t : Text) → ReadsAs castilian r t
-    → let p = print "ok" ++ signLines 0 (signsOf castilian t) ++ lineEnd ∷ [] in (length p ≤ 45 + 30 * length r) × (length p ≤ 106499)
+    → let p = print "ok" ++ signLines 0 (signsOf castilian t) ++ lineEnd ∷ [] in (length p ≤ 45 + 30 * length r) × (length p ≤ roomForSteps)
 signs-room r t h =
     let ss : List Sign = signsOf castilian t in
     let joins = ap length (signs-join t r (h .reads) .0) in

@@ -8,23 +8,21 @@ use Prim.Native.Nat.{ℕ, _≤_, _<_}
 use native.Mathlib.Omega.{arith}
 use lib.ListN.{length, take}
 use borrow.Author.Tests.{eq-eqb, ne-eqb, lt-ltb, le-ltb}
-use Rattle.rows.specs.Laid.{laid}
 use Rattle.rows.proofs.Laid.{front}
-use Rattle.rules.specs.Cells.{Text, Row, print}
+use Rattle.rules.specs.Cells.{Row, print}
 use Rattle.rules.specs.Castilian.{castilian}
 use Rattle.rules.specs.Places.{lacksSign, breaksPair, outsideForm, sharesCells}
 use Rattle.rules.specs.Rows.{signsOf}
 use Rattle.rules.specs.Refusals.{Refusal, tooLong, atFault, needsRoom, notACell, noText, numberOf, secondOf}
 use Rattle.rules.specs.Answers.{ReadsAs, RowRefused}
 use Rattle.rules.specs.Screen as screen
-use Rattle.rules.specs.Screen.{StepAnswer, shows, stays, Stepped, stepped, stayed}
+use Rattle.rules.specs.Screen.{shows, stays, Stepped, stepped, stayed}
 use Rattle.reader.specs.declared.Answer.{Answer}
 use Rattle.reader.specs.declared.Shown as step
 use Rattle.reader.specs.Promise.{refusalOf, numbersOf, Shows, sign-there, no-sign-there, row-refused}
 use Rattle.reader.proofs.Points.{known}
 use Rattle.desk.specs.declared.Sign as desk
 use Rattle.desk.specs.Shows.{readOf, pointsOf, signOf, ShowsSign}
-use Rattle.utf8.specs.Decoding.{decoded}
 use Rattle.utf8.specs.Encoding.{encodedOf}
 use Rattle.printing.specs.Printed.{decimalOf, lineEnd, blank, refusalLine, Prints}
 use Rattle.printing.proofs.Printed.{prints-as, prints-on, prints-within}

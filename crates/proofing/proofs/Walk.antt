@@ -3,7 +3,7 @@
 -- allowed (`one-sign`); each sign has a cell, so the walk ends, at the row's end and after the last sign. In order: the print of a step; past a sign; the walk's start, one
 -- sign, its end. Assumes nothing.
 use mathlib.Core.Path.{_≡_, refl, sym, ap, _∙_, subst}
-use mathlib.Core.List.{List, [], _∷_, _++_}
+use mathlib.Core.List.{List, [], _∷_}
 use mathlib.Core.Logic.{_⊎_, inl, inr}
 use mathlib.Core.Option.{Option, some}
 use Prim.Native.Nat.{ℕ, _+_, _-_, _≤_, _<_}
