@@ -23,7 +23,7 @@ abbrev pub PrintedOn : Type 0
 PrintedOn =
     (l : List ℕ) (at : ℕ) (x : List ℕ) (m : ℕ) (mid y : List ℕ) (r : ℕ) (new : List ℕ) → Prints l at x m mid → Prints mid m y r new → Prints l at (x ++ y) r new
 
--- "no 2 0"; the least and the greatest number; "ok" with the row of `8b`, in characters U+283C, U+2813, U+2803; "ok" with text; "long"
+-- "no 2 0"; the least and the greatest number; "ok" with a row of three cells, in characters U+283C, U+2813, U+2803; "ok" with text; "long"
 abbrev pub WorkedForms : Type 0
 WorkedForms =
     (refusalLine 2 0 ≡ print "no 2 0" ++ lineEnd ∷ [])

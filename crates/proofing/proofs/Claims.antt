@@ -74,10 +74,9 @@ whole-line-printed line points row out r points' row' out' a room p right =
     printed-in-front out p r out' fits (prints-as out 0 (a .printed) p r out' e (a .prints))
 
 pub one-outcome : OneOutcome
-one-outcome line points row out r s points' row' out' points'' row'' out'' room a b =
+one-outcome line points row out r s points' row' out' points'' row'' out'' a b =
     let e : a .printed ≡ b .printed = one-stepped-line line (a .printed) (b .printed) (a .right) (b .right) in
-    let fits : 0 + length (b .printed) ≤ length out = omega (arith, room, room-enough line (b .printed) (b .right) .1) in
-    let o = one-printed out 0 (b .printed) r s out' out'' fits (prints-as out 0 (a .printed) (b .printed) r out' e (a .prints)) (b .prints) in
+    let o = one-printed out 0 (b .printed) r s out' out'' (prints-as out 0 (a .printed) (b .printed) r out' e (a .prints)) (b .prints) in
     (o .0, a .decoding ∙ sym (b .decoding), a .cells ∙ sym (b .cells), o .1)
 
 pub worked-steps : WorkedSteps

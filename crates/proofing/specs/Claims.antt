@@ -56,7 +56,7 @@ WholeLinePrinted =
 -- and any two results are equal: the answer and all that was lent
 abbrev pub OneOutcome : Type 0
 OneOutcome =
-    (line points row out : List ℕ) (r s : ℕ) (points' row' out' points'' row'' out'' : List ℕ) → roomForSteps ≤ length out
+    (line points row out : List ℕ) (r s : ℕ) (points' row' out' points'' row'' out'' : List ℕ)
     → StepsLine line points row out r points' row' out' → StepsLine line points row out s points'' row'' out''
     → (r ≡ s) × (points' ≡ points'') × (row' ≡ row'') × (out' ≡ out'')
 
