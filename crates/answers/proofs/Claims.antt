@@ -12,10 +12,11 @@ use Rattle.rules.specs.Answers.{Answer, gives, refuses, PrintAnswer, RowAnswer}
 use Rattle.rules.proofs.Demands.{every-print-answered, every-row-answered, one-print-answer, one-row-answer, reads-back}
 use Rattle.utf8.specs.Decoding.{decoded}
 use Rattle.printing.specs.Printed.{bytesOfText, charactersOf, okLine, noLine, Prints}
-use Rattle.printing.proofs.Printed.{prints-front}
+use Rattle.desk.proofs.Unique.{one-shown, one-read}
+use Rattle.printing.proofs.Printed.{prints-front, prints-as, one-printed}
 use Rattle.patterns.specs.Patterns.{rowOf}
 use Rattle.answers.specs.Lines.{TranscribePrints, ReadPrints, prints-cells, prints-text, prints-refusal}
-use Rattle.answers.specs.Claims.{EveryLineTranscribed, EveryRowLineRead, OneTranscribedLine, OneReadLine, longestPrinted, longestRead, RoomEnough, TranscribedInFront, ReadInFront, LineReadsBack, LineThereAndBack}
+use Rattle.answers.specs.Claims.{EveryLineTranscribed, EveryRowLineRead, OneTranscribedLine, OneReadLine, OneTranscribing, OneReading, longestPrinted, longestRead, RoomEnough, TranscribedInFront, ReadInFront, LineReadsBack, LineThereAndBack}
 use Rattle.answers.proofs.Lines.{room-for-row, room-for-text}
 use Rattle.answers.proofs.Lengths.{no-line-short, ok-line-length, text-few, characters-three, characters-back, given-bytes}
 
@@ -71,6 +72,20 @@ read-short line x (prints-refusal z h) = omega (arith, no-line-short z)
 
 pub room-enough : RoomEnough
 room-enough = (transcribed-short, read-short)
+
+pub one-transcribing : OneTranscribing
+one-transcribing line points row out r s points' row' out' points'' row'' out'' a b =
+    let e : a .printed ≡ b .printed = one-transcribed-line (length row) line (a .printed) (b .printed) (a .right) (b .right) in
+    let cells = one-shown (decoded line) row (a .shown) (b .shown) row' row'' (a .transcribing) (b .transcribing) in
+    let o = one-printed out 0 (b .printed) r s out' out'' (prints-as out 0 (a .printed) (b .printed) r out' e (a .prints)) (b .prints) in
+    (o .0, a .decoding ∙ sym (b .decoding), cells .1, o .1)
+
+pub one-reading : OneReading
+one-reading line points row text out r s points' row' text' out' points'' row'' text'' out'' a b =
+    let e : a .printed ≡ b .printed = one-read-line (length text) line (a .printed) (b .printed) (a .right) (b .right) in
+    let read = one-read (rowOf line) text (a .shown) (b .shown) text' text'' (a .reading) (b .reading) in
+    let o = one-printed out 0 (b .printed) r s out' out'' (prints-as out 0 (a .printed) (b .printed) r out' e (a .prints)) (b .prints) in
+    (o .0, a .decoding ∙ sym (b .decoding), a .cells ∙ sym (b .cells), read .1, o .1)
 
 -- what stands in `out`
 in-front : (P : List ℕ → Type 0) (out x : List ℕ) (r : ℕ) (out' : List ℕ) → P x → Prints out 0 x r out' → length x ≤ length out

@@ -27,6 +27,19 @@ OneTranscribedLine = (room : ℕ) (line x y : List ℕ) → TranscribePrints roo
 abbrev pub OneReadLine : Type 0
 OneReadLine = (room : ℕ) (line x y : List ℕ) → ReadPrints room line x → ReadPrints room line y → x ≡ y
 
+-- of the promises: the answer, and all that was lent
+abbrev pub OneTranscribing : Type 0
+OneTranscribing =
+    (line points row out : List ℕ) (r s : ℕ) (points' row' out' points'' row'' out'' : List ℕ)
+    → TranscribesLine line points row out r points' row' out' → TranscribesLine line points row out s points'' row'' out''
+    → (r ≡ s) × (points' ≡ points'') × (row' ≡ row'') × (out' ≡ out'')
+
+abbrev pub OneReading : Type 0
+OneReading =
+    (line points row text out : List ℕ) (r s : ℕ) (points' row' text' out' points'' row'' text'' out'' : List ℕ)
+    → ReadsLine line points row text out r points' row' text' out' → ReadsLine line points row text out s points'' row'' text'' out''
+    → (r ≡ s) × (points' ≡ points'') × (row' ≡ row'') × (text' ≡ text'') × (out' ≡ out'')
+
 -- HOW LONG. "Lent room is 12,288": three bytes for a cell, `ok`, a blank and the end; `read`, with room for 4,096 code points, at most four bytes for each
 abbrev pub longestPrinted : ℕ
 longestPrinted = 3 + 3 * 12288 + 1
