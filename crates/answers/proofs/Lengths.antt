@@ -1,11 +1,11 @@
 -- How long a printed line is, and what it shows. In order: a number has at most 20 digits; a refusal's line; a code point has at most four bytes; a pattern character has three,
 -- and they show its cell; the cells of a row that the rules give are cells. Assumes nothing.
-use mathlib.Core.Bool.{Bool, true, false, cond, _&&_}
+use mathlib.Core.Bool.{Bool, true, false, cond}
 use mathlib.Core.List.{List, [], _∷_, _++_, map}
-use mathlib.Core.Path.{_≡_, refl, sym, ap, subst, _∙_}
+use mathlib.Core.Path.{_≡_, refl, ap, _∙_}
 use Prim.Native.Nat.{ℕ, zero, suc, _+_, _*_, _-_, _/_, _%_, _≤_, _<_}
 use native.Mathlib.Omega.{arith}
-use lib.Dec.{leb, ltb}
+use lib.Dec.{ltb}
 use lib.ListN.{length, getD, length-append}
 use borrow.Author.Tests.{lt-ltb, le-leb}
 use Rattle.rules.specs.Cells.{Text, Row, print}
@@ -14,7 +14,7 @@ use Rattle.rules.specs.Refusals.{Refusal, numberOf, secondOf}
 use Rattle.rules.specs.Normal.{normalOf}
 use Rattle.rules.specs.Answers.{gives, PrintAnswer, RowAnswer, read}
 use Rattle.rules.proofs.Demands.{reads-back}
-use Rattle.utf8.specs.Decoding.{replacement, decoded}
+use Rattle.utf8.specs.Decoding.{replacement}
 use Rattle.utf8.specs.Encoding.{isScalar, bytesOf, encodedOf}
 use Rattle.utf8.proofs.Encoding.{scalar-is, three-bytes}
 use Rattle.utf8.proofs.Inverse.{decoded-encoded}

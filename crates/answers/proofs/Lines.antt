@@ -78,14 +78,14 @@ Given answers lent s new = (x : List ℕ) × answers (gives x) × (s .second ≡
 
 -- the count is within what was lent, and what stands before it is what was given
 module _ (answers : rules.Answer → Type 0) (lent : List ℕ) (s : Shown) (new : List ℕ) (g : Given answers lent s new) where
-  pub given-there : s .second ≤ length new
+  given-there : s .second ≤ length new
   given-there = omega (arith, g .2, g .4, ap length (g .3), length-laid (g .0) lent (g .4))
 
   pub given-is : take (s .second) new ≡ g .0
   given-is = front (g .0) lent new (s .second) (g .2) (g .3)
 
-  pub given-count : s .second ≡ length (take (s .second) new)
-  given-count = g .2 ∙ sym (ap length given-is)
+  pub given-known : (s .second ≤ length new) × (s .second ≡ length (take (s .second) new))
+  given-known = (given-there, g .2 ∙ sym (ap length given-is))
 
 pub room-for-row : (p : Text) (room : ℕ) (r : Row) → PrintAnswer castilian p room (gives r) → length r ≤ room
 room-for-row p room r (transcribed s l e k) = k
@@ -157,78 +157,66 @@ module _ (out : List ℕ) (r : ℕ) (out' : List ℕ) where
       prints-on out 0 (print "ok" ++ blank ∷ bytes) c l₃ (lineEnd ∷ []) r out' front t
 
 -- THE ENDS OF `transcribe_line`
-module _ (line points row out : List ℕ) (count r : ℕ) (points' row' out' : List ℕ) (s : Shown) (room : length line ≤ length points)
+module _ (line points row : List ℕ) (count : ℕ) (points' row' : List ℕ) (s : Shown) (room : length line ≤ length points)
     (d : Decoded line points count points') (few : count ≤ length line) (shows : Shows castilian (take count points') row s row') where
   shows-line : Shows castilian (decoded line) row s row'
   shows-line = subst (λ (t : List ℕ). Shows castilian t row s row') (line-points line points count points' room d few) shows
 
-  transcribes : (x : List ℕ) → TranscribePrints (length row) line x → Prints out 0 x r out'
-      → TranscribesLine line points row out r points' row' out' × (r ≤ length out')
-  transcribes x right p = (
-    record { decoding = line-laid line points count points' room d few; shown = s; transcribing = shows-line; printed = x; right = right; prints = p },
-    line-within out r out' x p,
-  )
+  pub cells-given : s .number ≡ 0 → Given (Printed (decoded line) row) row s row'
+  cells-given = shows-given (decoded line) row s row' shows-line
 
-  pub transcribes-refusal : (s .number ≡ 0 → ⊥) → Prints out 0 (refusalLine (s .number) (s .second)) r out'
-      → TranscribesLine line points row out r points' row' out' × (r ≤ length out')
-  transcribes-refusal n p =
-      let w = shows-refused (decoded line) row s row' shows-line n in
-      transcribes (noLine (w .0)) (prints-refusal (w .0) (w .1)) (line-no out r out' (Printed (decoded line) row) s w p)
+  module _ (out : List ℕ) (r : ℕ) (out' : List ℕ) where
+    transcribes : (x : List ℕ) → TranscribePrints (length row) line x → Prints out 0 x r out'
+        → TranscribesLine line points row out r points' row' out' × (r ≤ length out')
+    transcribes x right p = (
+      record { decoding = line-laid line points count points' room d few; shown = s; transcribing = shows-line; printed = x; right = right; prints = p },
+      line-within out r out' x p,
+    )
 
-  module _ (done : s .number ≡ 0) where
-    cells-given : Given (Printed (decoded line) row) row s row'
-    cells-given = shows-given (decoded line) row s row' shows-line done
+    pub transcribes-refusal : (s .number ≡ 0 → ⊥) → Prints out 0 (refusalLine (s .number) (s .second)) r out'
+        → TranscribesLine line points row out r points' row' out' × (r ≤ length out')
+    transcribes-refusal n p =
+        let w = shows-refused (decoded line) row s row' shows-line n in
+        transcribes (noLine (w .0)) (prints-refusal (w .0) (w .1)) (line-no out r out' (Printed (decoded line) row) s w p)
 
-    pub cells-there : s .second ≤ length row'
-    cells-there = given-there (Printed (decoded line) row) row s row' cells-given
-
-    pub cells-count : s .second ≡ length (take (s .second) row')
-    cells-count = given-count (Printed (decoded line) row) row s row' cells-given
-
-    pub transcribes-cells : (l₁ l₂ l₃ : List ℕ) (a b c : ℕ) → Prints out 0 (print "ok") a l₁ → Prints l₁ a (blank ∷ []) b l₂
+    pub transcribes-cells : s .number ≡ 0 → (l₁ l₂ l₃ : List ℕ) (a b c : ℕ) → Prints out 0 (print "ok") a l₁ → Prints l₁ a (blank ∷ []) b l₂
         → Prints l₂ b (charactersOf (take (s .second) row')) c l₃ → Prints l₃ c (lineEnd ∷ []) r out'
         → TranscribesLine line points row out r points' row' out' × (r ≤ length out')
-    transcribes-cells l₁ l₂ l₃ a b c p q t u =
-        let g = cells-given in
+    transcribes-cells n l₁ l₂ l₃ a b c p q t u =
+        let g = cells-given n in
         let bytes : Prints l₂ b (charactersOf (g .0)) c l₃ =
         prints-as l₂ b (charactersOf (take (s .second) row')) (charactersOf (g .0)) c l₃
         (ap charactersOf (given-is (Printed (decoded line) row) row s row' g)) t in
         transcribes (okLine (charactersOf (g .0))) (prints-cells (g .0) (g .1)) (line-ok out r out' (charactersOf (g .0)) l₁ l₂ l₃ a b c p q bytes u)
 
 -- THE ENDS OF `read_line`
-module _ (line points row text out : List ℕ) (cells r : ℕ) (points' row' text' out' : List ℕ) (s : Shown) (w : ShowsRow line points row cells points' row')
+module _ (line points row text : List ℕ) (cells : ℕ) (points' row' text' : List ℕ) (s : Shown) (w : ShowsRow line points row cells points' row')
     (shows : ShowsRead castilian (take cells row') text s text') where
   shows-row : ShowsRead castilian (rowOf line) text s text'
   shows-row = subst (λ (t : List ℕ). ShowsRead castilian t text s text') (row-is line points row cells points' row' w) shows
 
-  reads : (x : List ℕ) → ReadPrints (length text) line x → Prints out 0 x r out'
-      → ReadsLine line points row text out r points' row' text' out' × (r ≤ length out')
-  reads x right p = (
-    record { decoding = w .decoding; cells = w .cells; shown = s; reading = shows-row; printed = x; right = right; prints = p },
-    line-within out r out' x p,
-  )
+  pub text-given : s .number ≡ 0 → Given (Answered (rowOf line) text) text s text'
+  text-given = shows-read-given (rowOf line) text s text' shows-row
 
-  pub reads-refusal : (s .number ≡ 0 → ⊥) → Prints out 0 (refusalLine (s .number) (s .second)) r out'
-      → ReadsLine line points row text out r points' row' text' out' × (r ≤ length out')
-  reads-refusal n p =
-      let x = shows-read-refused (rowOf line) text s text' shows-row n in
-      reads (noLine (x .0)) (prints-refusal (x .0) (x .1)) (line-no out r out' (Answered (rowOf line) text) s x p)
+  module _ (out : List ℕ) (r : ℕ) (out' : List ℕ) where
+    reads : (x : List ℕ) → ReadPrints (length text) line x → Prints out 0 x r out'
+        → ReadsLine line points row text out r points' row' text' out' × (r ≤ length out')
+    reads x right p = (
+      record { decoding = w .decoding; cells = w .cells; shown = s; reading = shows-row; printed = x; right = right; prints = p },
+      line-within out r out' x p,
+    )
 
-  module _ (done : s .number ≡ 0) where
-    text-given : Given (Answered (rowOf line) text) text s text'
-    text-given = shows-read-given (rowOf line) text s text' shows-row done
+    pub reads-refusal : (s .number ≡ 0 → ⊥) → Prints out 0 (refusalLine (s .number) (s .second)) r out'
+        → ReadsLine line points row text out r points' row' text' out' × (r ≤ length out')
+    reads-refusal n p =
+        let x = shows-read-refused (rowOf line) text s text' shows-row n in
+        reads (noLine (x .0)) (prints-refusal (x .0) (x .1)) (line-no out r out' (Answered (rowOf line) text) s x p)
 
-    pub text-there : s .second ≤ length text'
-    text-there = given-there (Answered (rowOf line) text) text s text' text-given
-
-    pub text-count : s .second ≡ length (take (s .second) text')
-    text-count = given-count (Answered (rowOf line) text) text s text' text-given
-
-    pub reads-text : (l₁ l₂ l₃ : List ℕ) (a b c : ℕ) → Prints out 0 (print "ok") a l₁ → Prints l₁ a (blank ∷ []) b l₂
+    pub reads-text : s .number ≡ 0 → (l₁ l₂ l₃ : List ℕ) (a b c : ℕ) → Prints out 0 (print "ok") a l₁ → Prints l₁ a (blank ∷ []) b l₂
         → Prints l₂ b (bytesOfText (take (s .second) text')) c l₃ → Prints l₃ c (lineEnd ∷ []) r out'
         → ReadsLine line points row text out r points' row' text' out' × (r ≤ length out')
-    reads-text l₁ l₂ l₃ a b c p q t u =
-        let g = text-given in
+    reads-text n l₁ l₂ l₃ a b c p q t u =
+        let g = text-given n in
         let bytes : Prints l₂ b (bytesOfText (g .0)) c l₃ =
         prints-as l₂ b (bytesOfText (take (s .second) text')) (bytesOfText (g .0)) c l₃
         (ap bytesOfText (given-is (Answered (rowOf line) text) text s text' g)) t in

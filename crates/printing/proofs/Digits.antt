@@ -1,6 +1,5 @@
 -- Decimal digits: those that `io::decimal` promises, the fewest that hold the number, are the number in decimal. By induction on how many there are: with one the
 -- number is below 10; with more it is not, and what they are without the last are those of the number without its last. Assumes nothing.
-use mathlib.Core.Bool.{cond}
 use mathlib.Core.List.{List, [], _∷_, _++_}
 use mathlib.Core.Logic.{⊎-elim}
 use mathlib.Core.Path.{_≡_, refl, ap, subst, _∙_}

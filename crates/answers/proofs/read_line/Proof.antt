@@ -1,5 +1,9 @@
 -- `read_line`: the row that the line shows, what the desk shows of it, and the printed line that these numbers tell. Assumes nothing.
-use Rattle.answers.proofs.Lines.{row-count, reads-refusal, text-there, text-count, reads-text}
+use mathlib.Core.Path.{_≡_}
+use Prim.Native.Nat.{_≤_}
+use lib.ListN.{length, take}
+use Rattle.patterns.specs.Patterns.{rowOf}
+use Rattle.answers.proofs.Lines.{Answered, row-count, given-known, reads-refusal, text-given, reads-text}
 use borrow.Author.Needs.{needs}
 use Rattle.answers.proofs.read_line.Statement.{statement}
 use Rattle.answers.proofs.read_line.Tie as tie
@@ -49,8 +53,8 @@ returns c =
     let w = i .before .before .before .before in
     let d = w .before .before .before .before .before .before .before in
     let a = d .before .before .before .before .before .before .before .before .args in
-    reads-refusal (a .line .now) (a .points .now) (a .row .now) (a .text .now) (a .out .now) (d .row-of .result) _ (d .row-of .last .1 .0) (d .row-of .last .1 .1 .0)
-    (w .desk-read .last .1 .0) _ (w .desk-read .result) (d .row-of .ensures .0) (w .desk-read .ensures) (i .if1 .taken) (p .put-refusal .ensures)
+    reads-refusal (a .line .now) (a .points .now) (a .row .now) (a .text .now) (d .row-of .result) (d .row-of .last .1 .0) (d .row-of .last .1 .1 .0)
+    (w .desk-read .last .1 .0) (w .desk-read .result) (d .row-of .ensures .0) (w .desk-read .ensures) (a .out .now) _ _ (i .if1 .taken) (p .put-refusal .ensures)
 
 slice-aggregate-put-all : tie.Need-slice-aggregate-put-all
 slice-aggregate-put-all c = search needs
@@ -61,23 +65,22 @@ put-all-requires c κs = search needs
 put-requires : tie.Need-put-requires
 put-requires c κs = search needs
 
-slice-reshare-prefix-put-text : tie.Need-slice-reshare-prefix-put-text
-slice-reshare-prefix-put-text c =
-    let i = c .before .before .before .before .before .before .before .before .before .before in
+-- where the desk shows 0, the code points that it counts stand in the text
+text-known : (i : tie.Else1) → let w = i .before .before .before .before .desk-read in
+    (w .result .second ≤ length (w .last .1 .0)) × (w .result .second ≡ length (take (w .result .second) (w .last .1 .0)))
+text-known i =
     let w = i .before .before .before .before in
     let d = w .before .before .before .before .before .before .before in
     let a = d .before .before .before .before .before .before .before .before .args in
-    text-there (a .line .now) (a .points .now) (a .row .now) (a .text .now) (a .out .now) (d .row-of .result) 0 (d .row-of .last .1 .0) (d .row-of .last .1 .1 .0)
-    (w .desk-read .last .1 .0) (a .out .now) (w .desk-read .result) (d .row-of .ensures .0) (w .desk-read .ensures) (i .if1 .left)
+    given-known (Answered (rowOf (a .line .now)) (a .text .now)) (a .text .now) (w .desk-read .result) (w .desk-read .last .1 .0)
+    (text-given (a .line .now) (a .points .now) (a .row .now) (a .text .now) (d .row-of .result) (d .row-of .last .1 .0) (d .row-of .last .1 .1 .0)
+    (w .desk-read .last .1 .0) (w .desk-read .result) (d .row-of .ensures .0) (w .desk-read .ensures) (i .if1 .left))
+
+slice-reshare-prefix-put-text : tie.Need-slice-reshare-prefix-put-text
+slice-reshare-prefix-put-text c = text-known (c .before .before .before .before .before .before .before .before .before .before) .0
 
 slice-aggregate-put-text : tie.Need-slice-aggregate-put-text
-slice-aggregate-put-text c =
-    let i = c .before .before .before .before .before .before .before .before .before .before .before in
-    let w = i .before .before .before .before in
-    let d = w .before .before .before .before .before .before .before in
-    let a = d .before .before .before .before .before .before .before .before .args in
-    text-count (a .line .now) (a .points .now) (a .row .now) (a .text .now) (a .out .now) (d .row-of .result) 0 (d .row-of .last .1 .0) (d .row-of .last .1 .1 .0)
-    (w .desk-read .last .1 .0) (a .out .now) (w .desk-read .result) (d .row-of .ensures .0) (w .desk-read .ensures) (i .if1 .left)
+slice-aggregate-put-text c = text-known (c .before .before .before .before .before .before .before .before .before .before .before) .1
 
 put-text-requires : tie.Need-put-text-requires
 put-text-requires c κs = search needs
@@ -107,8 +110,8 @@ returns-2 c =
     let w = i .before .before .before .before in
     let d = w .before .before .before .before .before .before .before in
     let a = d .before .before .before .before .before .before .before .before .args in
-    reads-text (a .line .now) (a .points .now) (a .row .now) (a .text .now) (a .out .now) (d .row-of .result) _ (d .row-of .last .1 .0) (d .row-of .last .1 .1 .0)
-    (w .desk-read .last .1 .0) _ (w .desk-read .result) (d .row-of .ensures .0) (w .desk-read .ensures) (i .if1 .left) _ _ _ _ _ _
+    reads-text (a .line .now) (a .points .now) (a .row .now) (a .text .now) (d .row-of .result) (d .row-of .last .1 .0) (d .row-of .last .1 .1 .0)
+    (w .desk-read .last .1 .0) (w .desk-read .result) (d .row-of .ensures .0) (w .desk-read .ensures) (a .out .now) _ _ (i .if1 .left) _ _ _ _ _ _
     (p .put-all .ensures) (t .put .ensures) (u .put-text .ensures) (v .put2 .ensures)
 
 pub read-line-spec : {M : Type 1} → statement M

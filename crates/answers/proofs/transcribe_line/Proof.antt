@@ -1,5 +1,9 @@
 -- `transcribe_line`: the code points of the line, what the desk shows of them, and the printed line that these numbers tell. Assumes nothing.
-use Rattle.answers.proofs.Lines.{line-count, transcribes-refusal, cells-there, cells-count, transcribes-cells}
+use mathlib.Core.Path.{_≡_}
+use Prim.Native.Nat.{_≤_}
+use lib.ListN.{length, take}
+use Rattle.utf8.specs.Decoding.{decoded}
+use Rattle.answers.proofs.Lines.{Printed, line-count, given-known, transcribes-refusal, cells-given, transcribes-cells}
 use borrow.Author.Needs.{needs}
 use Rattle.answers.proofs.transcribe_line.Statement.{statement}
 use Rattle.answers.proofs.transcribe_line.Tie as tie
@@ -47,8 +51,8 @@ returns c =
     let d = w .before .before .before .before .before in
     let s = d .before .before .before .before .before .before in
     let a = s .args in
-    transcribes-refusal (a .line .now) (a .points .now) (a .row .now) (a .out .now) (d .decode .result) _ (d .decode .last .1 .0) (w .desk-transcribe .last .1 .0) _
-    (w .desk-transcribe .result) (s .pre) (d .decode .ensures .0) (d .decode .ensures .1) (w .desk-transcribe .ensures) (i .if1 .taken) (p .put-refusal .ensures)
+    transcribes-refusal (a .line .now) (a .points .now) (a .row .now) (d .decode .result) (d .decode .last .1 .0) (w .desk-transcribe .last .1 .0)
+    (w .desk-transcribe .result) (s .pre) (d .decode .ensures .0) (d .decode .ensures .1) (w .desk-transcribe .ensures) (a .out .now) _ _ (i .if1 .taken) (p .put-refusal .ensures)
 
 slice-aggregate-put-all : tie.Need-slice-aggregate-put-all
 slice-aggregate-put-all c = search needs
@@ -59,25 +63,23 @@ put-all-requires c κs = search needs
 put-requires : tie.Need-put-requires
 put-requires c κs = search needs
 
-slice-reshare-prefix-put-cells : tie.Need-slice-reshare-prefix-put-cells
-slice-reshare-prefix-put-cells c =
-    let i = c .before .before .before .before .before .before .before .before .before .before in
+-- where the desk shows 0, the cells that it counts stand in the row
+cells-known : (i : tie.Else1) → let w = i .before .before .before .before .desk-transcribe in
+    (w .result .second ≤ length (w .last .1 .0)) × (w .result .second ≡ length (take (w .result .second) (w .last .1 .0)))
+cells-known i =
     let w = i .before .before .before .before in
     let d = w .before .before .before .before .before in
     let s = d .before .before .before .before .before .before in
     let a = s .args in
-    cells-there (a .line .now) (a .points .now) (a .row .now) (a .out .now) (d .decode .result) 0 (d .decode .last .1 .0) (w .desk-transcribe .last .1 .0) (a .out .now)
-    (w .desk-transcribe .result) (s .pre) (d .decode .ensures .0) (d .decode .ensures .1) (w .desk-transcribe .ensures) (i .if1 .left)
+    given-known (Printed (decoded (a .line .now)) (a .row .now)) (a .row .now) (w .desk-transcribe .result) (w .desk-transcribe .last .1 .0)
+    (cells-given (a .line .now) (a .points .now) (a .row .now) (d .decode .result) (d .decode .last .1 .0) (w .desk-transcribe .last .1 .0)
+    (w .desk-transcribe .result) (s .pre) (d .decode .ensures .0) (d .decode .ensures .1) (w .desk-transcribe .ensures) (i .if1 .left))
+
+slice-reshare-prefix-put-cells : tie.Need-slice-reshare-prefix-put-cells
+slice-reshare-prefix-put-cells c = cells-known (c .before .before .before .before .before .before .before .before .before .before) .0
 
 slice-aggregate-put-cells : tie.Need-slice-aggregate-put-cells
-slice-aggregate-put-cells c =
-    let i = c .before .before .before .before .before .before .before .before .before .before .before in
-    let w = i .before .before .before .before in
-    let d = w .before .before .before .before .before in
-    let s = d .before .before .before .before .before .before in
-    let a = s .args in
-    cells-count (a .line .now) (a .points .now) (a .row .now) (a .out .now) (d .decode .result) 0 (d .decode .last .1 .0) (w .desk-transcribe .last .1 .0) (a .out .now)
-    (w .desk-transcribe .result) (s .pre) (d .decode .ensures .0) (d .decode .ensures .1) (w .desk-transcribe .ensures) (i .if1 .left)
+slice-aggregate-put-cells c = cells-known (c .before .before .before .before .before .before .before .before .before .before .before) .1
 
 put-cells-requires : tie.Need-put-cells-requires
 put-cells-requires c κs = search needs
@@ -105,8 +107,8 @@ returns-2 c =
     let d = w .before .before .before .before .before in
     let s = d .before .before .before .before .before .before in
     let a = s .args in
-    transcribes-cells (a .line .now) (a .points .now) (a .row .now) (a .out .now) (d .decode .result) _ (d .decode .last .1 .0) (w .desk-transcribe .last .1 .0) _
-    (w .desk-transcribe .result) (s .pre) (d .decode .ensures .0) (d .decode .ensures .1) (w .desk-transcribe .ensures) (i .if1 .left) _ _ _ _ _ _
+    transcribes-cells (a .line .now) (a .points .now) (a .row .now) (d .decode .result) (d .decode .last .1 .0) (w .desk-transcribe .last .1 .0)
+    (w .desk-transcribe .result) (s .pre) (d .decode .ensures .0) (d .decode .ensures .1) (w .desk-transcribe .ensures) (a .out .now) _ _ (i .if1 .left) _ _ _ _ _ _
     (p .put-all .ensures) (t .put .ensures) (u .put-cells .ensures) (v .put2 .ensures)
 
 pub transcribe-line-spec : {M : Type 1} → statement M
