@@ -3,14 +3,13 @@
 use libc::STDIN_FILENO;
 use libc::STDOUT_FILENO;
 use programs::LONGEST_ROW_LINE;
+use programs::MOST_BYTES;
 use programs::Program;
 use programs::ROOM_FOR_TEXT;
+ghost use Rattle.filters.specs.Rooms.{Rooms};
 
 // So many bytes are asked for at once.
 const CHUNK: usize = 65536;
-
-// The longest line that is printed fits: `answers/Rooms`.
-const OUT: usize = 200000;
 
 // What is known of the line that has not ended: how many of its bytes are held; and whether the output is open still.
 pub struct State {
@@ -36,7 +35,9 @@ fn answer(
     row: &mut [u8],
     text: &mut [u32],
     out: &mut [u8],
-) -> bool {
+) -> bool
+    requires { ⌜ Rooms program (now line) (now points) (now row) (now text) (now out) ⌝ }
+{
     let n = programs::answer_line(program, line, held, points, row, text, out);
     write(&out[..n])
 }
@@ -51,7 +52,9 @@ fn answer_all(
     row: &mut [u8],
     text: &mut [u32],
     out: &mut [u8],
-) -> State {
+) -> State
+    requires { ⌜ Rooms program (now line) (now points) (now row) (now text) (now out) ⌝ }
+{
     let mut at = 0;
     let mut count = held;
     while at < chunk.len() {
@@ -83,7 +86,9 @@ fn filter(
     row: &mut [u8],
     text: &mut [u32],
     out: &mut [u8],
-) {
+)
+    requires { ⌜ Rooms program (now line) (now points) (now row) (now text) (now out) ⌝ }
+{
     let mut held = 0;
     let mut turns = u64::MAX;
     while turns > 0 {
@@ -115,7 +120,7 @@ pub fn run(program: Program) {
     let mut points = [0u32; LONGEST_ROW_LINE];
     let mut row = [0u8; LONGEST_ROW_LINE];
     let mut text = [0u32; ROOM_FOR_TEXT];
-    let mut out = [0u8; OUT];
+    let mut out = [0u8; MOST_BYTES];
     let longest = programs::longest_line(program);
     filter(
         program,
