@@ -100,17 +100,17 @@ fn filter(
         }
         let n = io::count(got, chunk);
         if n == 0 {
-            break;
+            // "and so does the end of the input after at least one byte"
+            if held > 0 {
+                answer(program, line, held, points, row, text, out);
+            }
+            return;
         }
         let state = answer_all(program, &chunk[..n], line, held, points, row, text, out);
         if !state.is_open {
             return;
         }
         held = state.held;
-    }
-    // "and so does the end of the input after at least one byte"
-    if held > 0 {
-        answer(program, line, held, points, row, text, out);
     }
 }
 
