@@ -16,6 +16,7 @@ ghost use Rattle.answers.specs.Lines.{TranscribesLine, ReadsLine};
 const DONE: usize = 0;
 
 // What `transcribe` prints for a line: "`ok`, a blank and one character U+2800 plus the cell for each cell; or `no`, .."
+// Two wrong programs that the promise shuts out: one that prints the whole of the lent row, and one that prints a refusal as a row.
 pub fn transcribe_line(line: &[u8], points: &mut [u32], row: &mut [u8], out: &mut [u8]) -> usize
     requires { ⌜ length (now line) ≤ length (now points) ⌝ }
     ensures { λ r. ⌜ TranscribesLine (now (line .entry)) (now (points .entry)) (now (row .entry)) (now (out .entry)) r (now (points .exit)) (now (row .exit)) (now (out .exit)) ⌝ }
@@ -33,7 +34,8 @@ pub fn transcribe_line(line: &[u8], points: &mut [u32], row: &mut [u8], out: &mu
     put(out, at, LINE_END)
 }
 
-// What `read` prints for a line.
+// What `read` prints for a line: "`ok`, a blank and the text in UTF-8, or `no N M`".
+// Two wrong programs that the promise shuts out: one that prints as many code points as the row has cells, and one that takes the characters for the row's bytes.
 pub fn read_line(
     line: &[u8],
     points: &mut [u32],

@@ -4,12 +4,12 @@ use mathlib.Core.Path.{_≡_}
 use Prim.Native.Nat.{ℕ, _≤_}
 use lib.ListN.{length}
 use Rattle.programs.specs.declared.Program.{Program}
-use Rattle.programs.specs.Answers.{longestLine, roomForText, mostBytes}
+use Rattle.programs.specs.Answers.{longestRowLine, longestLine, roomForText, mostBytes}
 
 -- of a program: the rooms of its line, of code points, of a row, of a text and of what is printed
 pub record Rooms (p : Program) (l c r t o : List ℕ) : Type 0 where
   pub line : length l ≡ longestLine p
-  pub points : 40960 ≤ length c
-  pub row : 40960 ≤ length r
+  pub points : longestRowLine ≤ length c
+  pub row : longestRowLine ≤ length r
   pub text : length t ≡ roomForText
   pub out : mostBytes ≤ length o

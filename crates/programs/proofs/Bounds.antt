@@ -7,10 +7,10 @@ use Rattle.answers.proofs.Claims as answers
 use Rattle.proofing.proofs.Claims as proofing
 use Rattle.programs.specs.declared.Program.{Program}
 use Rattle.programs.specs.declared.Program.the-variants.{Transcribe, Read, Steps}
-use Rattle.programs.specs.Answers.{longestLine, mostBytes, Answered, AnswerTo, too-long, answered}
+use Rattle.programs.specs.Answers.{longestRowLine, longestLine, mostBytes, Answered, AnswerTo, too-long, answered}
 use Rattle.programs.specs.Claims.{MostBytes}
 
-pub longest-line : (p : Program) → longestLine p ≤ 40960
+pub longest-line : (p : Program) → longestLine p ≤ longestRowLine
 longest-line Transcribe = omega arith
 longest-line Read = omega arith
 longest-line Steps = omega arith

@@ -24,7 +24,7 @@ use Rattle.answers.proofs.Lengths.{characters-three, given-bytes}
 use Rattle.proofing.proofs.Claims as proofing
 use Rattle.programs.specs.declared.Program.{Program}
 use Rattle.programs.specs.declared.Program.the-variants.{Transcribe, Read, Steps}
-use Rattle.programs.specs.Answers.{longestLine, roomForCells, roomForText, Answered, AnswerTo, too-long, answered, OutputFor, no-line, one-more, Output}
+use Rattle.programs.specs.Answers.{longestRowLine, longestLine, roomForCells, roomForText, Answered, AnswerTo, too-long, answered, OutputFor, no-line, one-more, Output}
 use Rattle.programs.specs.Claims.{EveryInputAnswered, OneOutput, MostBytes, PaperExample, ReadUndoesTranscribe}
 use Rattle.programs.proofs.Bounds as bounds
 
@@ -79,7 +79,7 @@ row-short p room r (rules.transcribed s short reads fits) = fits
 
 pub read-undoes-transcribe : ReadUndoesTranscribe
 read-undoes-transcribe line r g =
-    let few : length (charactersOf r) ≤ 40960 =
+    let few : length (charactersOf r) ≤ longestRowLine =
     omega (arith, characters-three r (given-bytes (decoded line) roomForCells r g), row-short (decoded line) roomForCells r g) in
     answered (okLine (bytesOfText (normalOf (decoded line)))) few
     (answers.line-there-and-back roomForCells line r g roomForText (print-short (decoded line) roomForCells r g))

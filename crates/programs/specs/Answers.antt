@@ -13,11 +13,17 @@ use Rattle.proofing.specs.Steps.{StepsPrints}
 use Rattle.programs.specs.declared.Program.{Program}
 use Rattle.programs.specs.declared.Program.the-variants.{Transcribe, Read, Steps}
 
--- "A line above 16,384 bytes, its end not counted, prints `long`"; `read` and `steps`: above 40,960
+-- "A line above 16,384 bytes, its end not counted, prints `long`"; of cells: above 40,960
+abbrev pub longestPrintLine : ℕ
+longestPrintLine = 16384
+
+abbrev pub longestRowLine : ℕ
+longestRowLine = 40960
+
 abbrev pub longestLine : Program → ℕ
-longestLine Transcribe = 16384
-longestLine Read = 40960
-longestLine Steps = 40960
+longestLine Transcribe = longestPrintLine
+longestLine Read = longestRowLine
+longestLine Steps = longestRowLine
 
 -- "Lent room is 12,288"; `read`: 4,096
 abbrev pub roomForCells : ℕ

@@ -3,7 +3,7 @@
 ghost use mathlib.Core.Path.{_≡_};
 ghost use Prim.Native.Nat.{_≤_};
 ghost use lib.ListN.{length};
-ghost use Rattle.programs.specs.Answers.{longestLine, roomForText, mostBytes, AnswersLine};
+ghost use Rattle.programs.specs.Answers.{longestRowLine, longestLine, roomForText, mostBytes, AnswersLine};
 
 pub enum Program {
     // print to cells
@@ -30,7 +30,7 @@ pub const MOST_BYTES: usize = 106499;
 // The most bytes that a program takes as a line.
 pub fn longest_line(program: Program) -> usize
     ensures { λ r. ⌜ r ≡ longestLine program ⌝ }
-    ensures { λ r. ⌜ r ≤ 40960 ⌝ }
+    ensures { λ r. ⌜ r ≤ longestRowLine ⌝ }
 {
     match program {
         Program::Transcribe => LONGEST_PRINT_LINE,
@@ -40,6 +40,7 @@ pub fn longest_line(program: Program) -> usize
 }
 
 // What is printed for a line, whose bytes `line` holds, or of which it holds that it is long (`lines`). It goes to the front of `out`; the other slices are room to work in.
+// Two wrong programs that the promise shuts out: one that answers the beginning of a long line, and one that prints for a line what the line before it was answered.
 pub fn answer_line(
     program: Program,
     line: &[u8],
@@ -50,8 +51,8 @@ pub fn answer_line(
     out: &mut [u8],
 ) -> usize
     requires { ⌜ length (now line) ≡ longestLine program ⌝ }
-    requires { ⌜ 40960 ≤ length (now points) ⌝ }
-    requires { ⌜ 40960 ≤ length (now row) ⌝ }
+    requires { ⌜ longestRowLine ≤ length (now points) ⌝ }
+    requires { ⌜ longestRowLine ≤ length (now row) ⌝ }
     requires { ⌜ length (now text) ≡ roomForText ⌝ }
     requires { ⌜ mostBytes ≤ length (now out) ⌝ }
     ensures { λ r. ⌜ AnswersLine program (now (line .entry)) held (now (out .entry)) r (now (out .exit)) ⌝ }
