@@ -13,12 +13,13 @@ use Rattle.rules.proofs.Demands.{every-print-answered, every-row-answered, one-
 use Rattle.utf8.specs.Decoding.{decoded}
 use Rattle.printing.specs.Printed.{bytesOfText, charactersOf, okLine, noLine, Prints}
 use Rattle.desk.proofs.Unique.{one-shown, one-read}
+use Rattle.printing.proofs.Lengths.{no-line-short, ok-line-length, text-few}
 use Rattle.printing.proofs.Printed.{prints-front, prints-as, one-printed}
 use Rattle.patterns.specs.Patterns.{rowOf}
 use Rattle.answers.specs.Lines.{TranscribePrints, ReadPrints, prints-cells, prints-text, prints-refusal}
 use Rattle.answers.specs.Claims.{EveryLineTranscribed, EveryRowLineRead, OneTranscribedLine, OneReadLine, OneTranscribing, OneReading, longestPrinted, longestRead, RoomEnough, TranscribedInFront, ReadInFront, LineReadsBack, LineThereAndBack}
 use Rattle.answers.proofs.Lines.{room-for-row, room-for-text}
-use Rattle.answers.proofs.Lengths.{no-line-short, ok-line-length, text-few, characters-three, characters-back, given-bytes}
+use Rattle.answers.proofs.Lengths.{characters-three, characters-back, given-bytes}
 
 -- every line has a printed line
 pub every-line-transcribed : EveryLineTranscribed

@@ -1,3 +1,4 @@
 pub mod Printed
 pub mod Digits
+pub mod Lengths
 pub mod Claims

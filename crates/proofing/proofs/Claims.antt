@@ -23,7 +23,8 @@ use Rattle.printing.proofs.Claims.{one-printed, printed-in-front}
 use Rattle.patterns.specs.Patterns.{rowOf}
 use Rattle.proofing.specs.Steps.{signLines, StepsPrints, prints-signs, prints-refusal}
 use Rattle.proofing.specs.Claims.{EveryLineStepped, OneSteppedLine, printParts, StepsJoinToText, RoomEnough, WholeLinePrinted, OneOutcome, WorkedSteps}
-use Rattle.proofing.proofs.Room.{signs-room, refusal-room}
+use Rattle.printing.proofs.Lengths.{no-line-short}
+use Rattle.proofing.proofs.Room.{signs-room}
 
 -- what is printed follows from the answer to a step
 printed-by : (line : List ℕ) (a : StepAnswer) → Stepped castilian (rowOf line) 0 a → (p : List ℕ) × StepsPrints line p
@@ -65,7 +66,7 @@ steps-join-to-text line t h = (
 
 pub room-enough : RoomEnough
 room-enough line p (prints-signs t h) = signs-room (rowOf line) t h
-room-enough line p (prints-refusal x h) = (omega (arith, refusal-room x), omega (arith, refusal-room x))
+room-enough line p (prints-refusal x h) = (omega (arith, no-line-short x), omega (arith, no-line-short x))
 
 pub whole-line-printed : WholeLinePrinted
 whole-line-printed line points row out r points' row' out' a room p right =
