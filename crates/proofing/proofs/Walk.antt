@@ -1,24 +1,23 @@
 -- The walk over an accepted row by public steps, each sign printed behind the one before. Between two of them it is known (`Walk`): which signs are left, that what starts at a
 -- place from here on is what starts among them, and that those, printed from here on, make the whole. A step shows the first sign that is left, since no other result is
--- allowed (`one-sign`); each sign has a cell, so the walk ends, at the row's end and after the last sign. In order: the print of a step; past a sign; the walk's start, one
+-- allowed (`one-sign`); each sign has a cell, so the walk ends, at the row's end and after the last sign. In order: the print of a step; one step; the walk's start, one
 -- sign, its end. Assumes nothing.
 use mathlib.Core.Path.{_≡_, refl, sym, ap, _∙_, subst}
 use mathlib.Core.List.{List, [], _∷_}
 use mathlib.Core.Logic.{_⊎_, inl, inr}
-use mathlib.Core.Option.{Option, some}
 use Prim.Native.Nat.{ℕ, _+_, _-_, _≤_, _<_}
 use native.Mathlib.Omega.{arith}
 use lib.ListN.{length, length-append}
-use borrow.Author.Tests.{eq-eqb, ne-eqb, le-leb}
+use borrow.Author.Tests.{eq-eqb, ne-eqb}
 use Rattle.rules.specs.Cells.{Text, Row}
 use Rattle.rules.specs.Castilian.{castilian}
 use Rattle.rules.specs.Signs.{Sign, cellsOf}
 use Rattle.rules.specs.Rows.{signsOf}
 use Rattle.rules.specs.Answers.{ReadsAs}
-use Rattle.rules.specs.Screen.{signAt, shownBy, shows, Stepped, stepped}
+use Rattle.rules.specs.Screen.{signAt, shows, Stepped}
 use Rattle.rules.proofs.Castilian.{sane}
 use Rattle.rules.proofs.Signs.{signs-join, Filled, filled-signs}
-use Rattle.rules.proofs.Steps.{Left}
+use Rattle.rules.proofs.Steps.{Left, left-on, step-here}
 use Rattle.signs.specs.Print.{points}
 use Rattle.reader.specs.Promise.{sign-there}
 use Rattle.reader.specs.declared.Shown.the-variants as steps
@@ -48,32 +47,16 @@ module _ (lead point next : ℕ) where
       go (inl e) = rw (eq-eqb lead 0 e) refl
       go (inr e) = rw (ne-eqb lead 0 e) refl
 
--- PAST A SIGN, the next ones start
-sign-past : (s : Sign) (ss : List Sign) (n : ℕ) → 1 ≤ length (s .taken) → signAt (s ∷ ss) (length (s .taken) + n) ≡ signAt ss n
-unfolding signAt
-sign-past s ss n f =
-    rw (ne-eqb (length (s .taken) + n) 0 (λ e. omega (arith, e, f)), le-leb (length (s .taken)) (length (s .taken) + n) (omega arith), signAt)
-    (ap (signAt ss) (omega arith))
-
+-- ONE STEP
 module _ (row : Row) (t : Text) (h : ReadsAs castilian row t) where
-  left-on : (n : ℕ) (s : Sign) (ss : List Sign) → 1 ≤ length (s .taken) → Left castilian sane row t h n (s ∷ ss)
-      → Left castilian sane row t h (n + length (s .taken)) ss
-  left-on n s ss f l = (
-    λ k. ap (signAt (signsOf castilian t)) (omega arith) ∙ l .0 (length (s .taken) + k) ∙ sign-past s ss k f,
-    omega (arith, l .1, length-append (s .taken) (cellsOf ss)),
-  )
-
   -- the step shows the first sign that is left
   step-is : (n : ℕ) (s : Sign) (ss : List Sign) → Left castilian sane row t h n (s ∷ ss) → (lead point : ℕ) → s .shown ≡ points lead point
       → (g : desk.Sign) → ShowsSign castilian row n g → g ≡ pointsOf lead point (n + length (s .taken))
-  unfolding signAt signOf
+  unfolding signOf
   step-is n s ss l lead point q g shows-g =
       let next : ℕ = n + length (s .taken) in
-      let there : signAt (signsOf castilian t) n ≡ some s = ap (signAt (signsOf castilian t)) (omega arith) ∙ l .0 0 in
-      let d : Stepped castilian row n (shows (record { points = s .shown; next = next })) =
-      subst (λ (x : Option Sign). Stepped castilian row n (shows (shownBy x n))) there (stepped t h) in
       let e : Stepped castilian row n (shows (record { points = points lead point; next = next })) =
-      subst (λ (u : Text). Stepped castilian row n (shows (record { points = u; next = next }))) q d in
+      subst (λ (u : Text). Stepped castilian row n (shows (record { points = u; next = next }))) q (step-here castilian sane row t h n s ss l) in
       one-sign row n g (pointsOf lead point next) shows-g
       (record { shown = steps.Sign lead point next; promise = sign-there lead point next e; shows = refl })
 
@@ -124,7 +107,7 @@ module _ (row : Row) (lent : List ℕ) (at : ℕ) where
               left = ss;
               coded = c .1;
               filled = f .1;
-              here = left-on row (w .text) (w .reads) place s ss (f .0) l;
+              here = left-on castilian sane row (w .text) (w .reads) place s ss (f .0) l;
               printed = mid-on lent at (signLines 0 (signsOf castilian (w .text))) (signLines place (s ∷ ss)) end out m (signLine place (s .shown)) (signLines next ss) end' out' refl
                   (prints-as out end (signLine place (shownText g)) (signLine place (s .shown)) end' out' (ap (signLine place) shown-is) p);
             } in (

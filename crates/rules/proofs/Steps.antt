@@ -39,13 +39,13 @@ module _ (tb : Table) (sane : Sane tb) (r : Row) (t : Text) (h : ReadsAs tb r t)
   abbrev pub Left : ℕ → List Sign → Type 0
   Left n ss = ((k : ℕ) → signAt (signsOf tb t) (n + k) ≡ signAt ss k) × (n + length (cellsOf ss) ≡ length r)
 
-  left-on : (n : ℕ) (s : Sign) (ss : List Sign) → 1 ≤ length (s .taken) → Left n (s ∷ ss) → Left (n + length (s .taken)) ss
+  pub left-on : (n : ℕ) (s : Sign) (ss : List Sign) → 1 ≤ length (s .taken) → Left n (s ∷ ss) → Left (n + length (s .taken)) ss
   left-on n s ss f l = (
     λ k. ap (signAt (signsOf tb t)) (omega arith) ∙ l .0 (length (s .taken) + k) ∙ sign-past s ss k f,
     omega (arith, l .1, length-append (s .taken) (cellsOf ss)),
   )
 
-  step-here : (n : ℕ) (s : Sign) (ss : List Sign) → Left n (s ∷ ss)
+  pub step-here : (n : ℕ) (s : Sign) (ss : List Sign) → Left n (s ∷ ss)
       → Stepped tb r n (shows (record { points = s .shown; next = n + length (s .taken) }))
   unfolding signAt
   step-here n s ss l =
