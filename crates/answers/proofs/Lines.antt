@@ -1,4 +1,4 @@
--- What is printed for a line. In order: the line's code points; what the numbers that the desk shows tell (a refusal has no number 0); the printed line of each; the ends of
+-- What is printed for a line. In order: what the numbers that the desk shows tell; the printed line of each; the ends of
 -- `transcribe_line` and of `read_line`. Assumes nothing.
 use mathlib.Core.List.{List, [], _∷_, _++_}
 use mathlib.Core.Option.{some}
@@ -6,13 +6,12 @@ use mathlib.Core.Path.{_≡_, refl, sym, ap, subst, _∙_}
 use Prim.Native.Nat.{ℕ, _≤_, _<_}
 use native.Mathlib.Omega.{arith}
 use lib.ListN.{length, take}
-use lib.Seq.{take-all}
 use Rattle.rows.specs.Laid.{laid}
 use Rattle.rows.proofs.Laid.{front, length-laid}
 use Rattle.rules.specs.Cells.{Text, Row, print}
 use Rattle.rules.specs.Castilian.{castilian}
-use Rattle.rules.specs.Places.{lacksSign, breaksPair, outsideForm, sharesCells}
-use Rattle.rules.specs.Refusals.{Refusal, tooLong, atFault, needsRoom, notACell, noText, numberOf, secondOf}
+use Rattle.rules.specs.Refusals.{Refusal, numberOf, secondOf}
+use Rattle.rules.proofs.Refusals.{refusal-not-0}
 use Rattle.rules.specs.Answers as rules
 use Rattle.rules.specs.Answers.{gives, refuses, PrintAnswer, transcribed, RowAnswer, read}
 use Rattle.transcriber.specs.declared.Answer.{Answer}
@@ -22,45 +21,14 @@ use Rattle.reader.specs.Promise as told
 use Rattle.desk.specs.declared.Shown.{Shown}
 use Rattle.desk.specs.Shows.{shownOf, Shows, readOf, ShowsRead}
 use Rattle.utf8.specs.Decoding.{decoded, Decoded}
+use Rattle.utf8.proofs.Decoding.{all-laid, all-points}
 use Rattle.printing.specs.Printed.{bytesOfText, charactersOf, lineEnd, blank, okLine, refusalLine, noLine, Prints}
 use Rattle.printing.proofs.Printed.{prints-on, prints-as, prints-within}
 use Rattle.patterns.specs.Patterns.{rowOf, ShowsRow}
+use Rattle.patterns.proofs.Patterns.{row-is}
 use Rattle.answers.specs.Lines.{TranscribePrints, ReadPrints, prints-cells, prints-text, prints-refusal, TranscribesLine, ReadsLine}
 
--- THE CODE POINTS OF A LINE: there is room for them, and they are what stands before their count
-module _ (line points : List ℕ) (count : ℕ) (points' : List ℕ) (room : length line ≤ length points)
-    (d : Decoded line points count points') (few : count ≤ length line) where
-  pub line-laid : points' ≡ laid (decoded line) points
-  line-laid =
-      d .text
-      ∙ ap (λ (t : List ℕ). laid t points) (take-all (length points) (decoded line) (omega (arith, d .count, few, room)))
-
-  pub line-points : take count points' ≡ decoded line
-  line-points = front (decoded line) points points' count (d .count) line-laid
-
-  pub line-count : count ≡ length (take count points')
-  line-count = d .count ∙ sym (ap length line-points)
-
--- THE ROW OF A LINE
-module _ (line points row : List ℕ) (cells : ℕ) (points' row' : List ℕ) (w : ShowsRow line points row cells points' row') where
-  pub row-is : take cells row' ≡ rowOf line
-  row-is = front (rowOf line) row row' cells (w .count) (w .cells)
-
-  pub row-count : cells ≡ length (take cells row')
-  row-count = w .count ∙ sym (ap length row-is)
-
--- THE NUMBERS OF A REFUSAL are those of the paper's table, none of which is 0
-pub refusal-not-0 : (x : Refusal) → 0 < numberOf x
-unfolding numberOf
-refusal-not-0 (tooLong n) = omega arith
-refusal-not-0 (atFault lacksSign n) = omega arith
-refusal-not-0 (atFault breaksPair n) = omega arith
-refusal-not-0 (atFault outsideForm n) = omega arith
-refusal-not-0 (atFault sharesCells n) = omega arith
-refusal-not-0 (needsRoom n) = omega arith
-refusal-not-0 (notACell n) = omega arith
-refusal-not-0 noText = omega arith
-
+-- THE NUMBERS OF A REFUSAL are those of the paper's table
 refused-number : (a : Answer) (x : Refusal) → written.refusalOf a ≡ some x → (shownOf a .number ≡ numberOf x) × (shownOf a .second ≡ secondOf x)
 unfolding shownOf written.numbersOf
 refused-number a x q = rw q (refl, refl)
@@ -160,7 +128,7 @@ module _ (out : List ℕ) (r : ℕ) (out' : List ℕ) where
 module _ (line points row : List ℕ) (count : ℕ) (points' row' : List ℕ) (s : Shown) (room : length line ≤ length points)
     (d : Decoded line points count points') (few : count ≤ length line) (shows : Shows castilian (take count points') row s row') where
   shows-line : Shows castilian (decoded line) row s row'
-  shows-line = subst (λ (t : List ℕ). Shows castilian t row s row') (line-points line points count points' room d few) shows
+  shows-line = subst (λ (t : List ℕ). Shows castilian t row s row') (all-points line points count points' room d few) shows
 
   pub cells-given : s .number ≡ 0 → Given (Printed (decoded line) row) row s row'
   cells-given = shows-given (decoded line) row s row' shows-line
@@ -169,7 +137,7 @@ module _ (line points row : List ℕ) (count : ℕ) (points' row' : List ℕ) (s
     transcribes : (x : List ℕ) → TranscribePrints (length row) line x → Prints out 0 x r out'
         → TranscribesLine line points row out r points' row' out' × (r ≤ length out')
     transcribes x right p = (
-      record { decoding = line-laid line points count points' room d few; shown = s; transcribing = shows-line; printed = x; right = right; prints = p },
+      record { decoding = all-laid line points count points' room d few; shown = s; transcribing = shows-line; printed = x; right = right; prints = p },
       line-within out r out' x p,
     )
 

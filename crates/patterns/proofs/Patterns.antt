@@ -1,5 +1,5 @@
 -- The row that a line of characters shows: the laws that the functions cite. In order: the byte of a character; between two characters (`Mid`): the bytes still to come, stored
--- behind those that are, make the whole row; the ends of `row_of`. Not here: the code points of a line (crate `utf8`). Assumes nothing.
+-- behind those that are, make the whole row; the ends of `row_of`; what a caller has of it. Not here: the code points of a line (crate `utf8`). Assumes nothing.
 use mathlib.Core.List.{List, [], _∷_, map}
 use mathlib.Core.Path.{_≡_, refl, sym, ap, _∙_}
 use Prim.Native.Nat.{ℕ, suc, _+_, _-_, _≤_, _<_}
@@ -10,7 +10,7 @@ use borrow.Author.Tests.{le-leb, lt-leb}
 use Rattle.rows.specs.Laid.{laid}
 use Rattle.rows.proofs.Laid.{length-laid, front}
 use Rattle.utf8.specs.Decoding.{decoded, Decoded}
-use Rattle.utf8.proofs.Decoding.{stored-is}
+use Rattle.utf8.proofs.Decoding.{stored-is, all-laid, all-points}
 use Rattle.patterns.specs.Patterns.{byteOf, rowOf, ShowsRow}
 
 -- THE BYTE OF A CHARACTER
@@ -55,26 +55,24 @@ module _ (text lent : List ℕ) where
         sym (ap (λ (v : List ℕ). sets row i v) none) ∙ m .stored ∙ stored-all (map byteOf text) lent fits
 
 -- THE ENDS OF `row_of`: n code points were decoded into `text`, which is lent, and became `new`
-module _ (line text new : List ℕ) (n : ℕ) (d : Decoded line text n new) (few : n ≤ length line) (room : length line ≤ length text) where
-  short : length (decoded line) ≤ length text
-  short = omega (arith, d .count)
-
-  pub decoding : new ≡ laid (decoded line) text
-  decoding = d .text ∙ ap (λ (w : List ℕ). laid w text) (take-all (length text) (decoded line) short)
-
-  pub same-length : length new ≡ length text
-  same-length = ap length decoding ∙ length-laid (decoded line) text short
-
-  pub text-is : take n new ≡ decoded line
-  text-is = front (decoded line) text new n (d .count) decoding
-
-  pub count-is : n ≡ length (take n new)
-  count-is = d .count ∙ sym (ap length text-is)
+module _ (line text : List ℕ) (n : ℕ) (new : List ℕ) (room : length line ≤ length text) (d : Decoded line text n new) (few : n ≤ length line) where
+  same-length : length new ≡ length text
+  same-length = ap length (all-laid line text n new room d few) ∙ length-laid (decoded line) text (omega (arith, d .count, few, room))
 
   pub shows-row : (row row' : List ℕ) → length line ≤ length row → row' ≡ laid (map byteOf (take n new)) row
       → ShowsRow line text row n new row' × ((n ≤ length new) × (n ≤ length row'))
   shows-row row row' fits e =
-      let cells : row' ≡ laid (rowOf line) row = e ∙ ap (λ (v : List ℕ). laid (map byteOf v) row) text-is in
+      let cells : row' ≡ laid (rowOf line) row = e ∙ ap (λ (v : List ℕ). laid (map byteOf v) row) (all-points line text n new room d few) in
       let count : n ≡ length (rowOf line) = d .count ∙ sym (length-map (decoded line) byteOf) in
-      let whole : length row' ≡ length row = ap length cells ∙ length-laid (rowOf line) row (omega (arith, count)) in
-      (record { count = count; decoding = decoding; cells = cells }, (omega (arith, same-length), omega (arith, whole)))
+      let whole : length row' ≡ length row = ap length cells ∙ length-laid (rowOf line) row (omega (arith, count, few, fits)) in (
+        record { count = count; decoding = all-laid line text n new room d few; cells = cells },
+        (omega (arith, same-length, few, room), omega (arith, whole, few, fits)),
+      )
+
+-- THE ROW OF A LINE is what stands before its count
+module _ (line points row : List ℕ) (cells : ℕ) (points' row' : List ℕ) (w : ShowsRow line points row cells points' row') where
+  pub row-is : take cells row' ≡ rowOf line
+  row-is = front (rowOf line) row row' cells (w .count) (w .cells)
+
+  pub row-count : cells ≡ length (take cells row')
+  row-count = w .count ∙ sym (ap length row-is)

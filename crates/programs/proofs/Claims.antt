@@ -21,6 +21,7 @@ use Rattle.printing.specs.Printed.{okLine, noLine, refusalLine, longLine, chara
 use Rattle.answers.specs.Lines.{prints-cells, prints-refusal}
 use Rattle.answers.proofs.Claims as answers
 use Rattle.answers.proofs.Lengths.{characters-three, given-bytes}
+use Rattle.answers.proofs.Lines.{room-for-row}
 use Rattle.proofing.proofs.Claims as proofing
 use Rattle.programs.specs.declared.Program.{Program}
 use Rattle.programs.specs.declared.Program.the-variants.{Transcribe, Read, Steps}
@@ -74,13 +75,10 @@ most-bytes = bounds.most-bytes
 print-short : (p : Text) (room : ℕ) (r : Row) → PrintAnswer castilian p room (gives r) → length (normalOf p) ≤ 4096
 print-short p room r (rules.transcribed s short reads fits) = short
 
-row-short : (p : Text) (room : ℕ) (r : Row) → PrintAnswer castilian p room (gives r) → length r ≤ room
-row-short p room r (rules.transcribed s short reads fits) = fits
-
 pub read-undoes-transcribe : ReadUndoesTranscribe
 read-undoes-transcribe line r g =
     let few : length (charactersOf r) ≤ longestRowLine =
-    omega (arith, characters-three r (given-bytes (decoded line) roomForCells r g), row-short (decoded line) roomForCells r g) in
+    omega (arith, characters-three r (given-bytes (decoded line) roomForCells r g), room-for-row (decoded line) roomForCells r g) in
     answered (okLine (bytesOfText (normalOf (decoded line)))) few
     (answers.line-there-and-back roomForCells line r g roomForText (print-short (decoded line) roomForCells r g))
 

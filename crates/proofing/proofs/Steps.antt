@@ -8,12 +8,11 @@ use Prim.Native.Nat.{ℕ, _≤_, _<_}
 use native.Mathlib.Omega.{arith}
 use lib.ListN.{length, take}
 use borrow.Author.Tests.{eq-eqb, ne-eqb, lt-ltb, le-ltb}
-use Rattle.rows.proofs.Laid.{front}
 use Rattle.rules.specs.Cells.{Row, print}
 use Rattle.rules.specs.Castilian.{castilian}
-use Rattle.rules.specs.Places.{lacksSign, breaksPair, outsideForm, sharesCells}
 use Rattle.rules.specs.Rows.{signsOf}
-use Rattle.rules.specs.Refusals.{Refusal, tooLong, atFault, needsRoom, notACell, noText, numberOf, secondOf}
+use Rattle.rules.specs.Refusals.{Refusal, numberOf, secondOf}
+use Rattle.rules.proofs.Refusals.{refusal-not-0}
 use Rattle.rules.specs.Answers.{ReadsAs, RowRefused}
 use Rattle.rules.specs.Screen as screen
 use Rattle.rules.specs.Screen.{shows, stays, Stepped, stepped, stayed}
@@ -27,6 +26,7 @@ use Rattle.utf8.specs.Encoding.{encodedOf}
 use Rattle.printing.specs.Printed.{decimalOf, lineEnd, blank, refusalLine, Prints}
 use Rattle.printing.proofs.Printed.{prints-as, prints-on, prints-within}
 use Rattle.patterns.specs.Patterns.{rowOf, ShowsRow}
+use Rattle.patterns.proofs.Patterns.{row-is}
 use Rattle.proofing.specs.Steps.{colon, signLine, signLines, StepsPrints, prints-signs, prints-refusal, StepsLine}
 use Rattle.proofing.specs.Walk.{shownText, Accepted, SignsPrinted}
 
@@ -58,18 +58,7 @@ module _ (place : ℕ) (s : desk.Sign) (l : List ℕ) (at a : ℕ) (la : List �
       (prints-as l at _ _ f lf (two-points (blank ∷ decimalOf place) (encodedOf (s .first)) (encodedOf (s .then)))
       (prints-on l at ((blank ∷ decimalOf place ++ colon ∷ []) ++ encodedOf (s .first)) e le (encodedOf (s .then)) f lf begun fifth))
 
--- WHAT THE FIRST STEP TELLS. No refusal has the number 0.
-no-nought : (x : Refusal) → numberOf x ≡ 0 → ⊥
-unfolding numberOf
-no-nought (tooLong n) e = omega (arith, e)
-no-nought (atFault lacksSign n) e = omega (arith, e)
-no-nought (atFault breaksPair n) e = omega (arith, e)
-no-nought (atFault outsideForm n) e = omega (arith, e)
-no-nought (atFault sharesCells n) e = omega (arith, e)
-no-nought (needsRoom n) e = omega (arith, e)
-no-nought (notACell n) e = omega (arith, e)
-no-nought noText e = omega (arith, e)
-
+-- WHAT THE FIRST STEP TELLS
 sign-number : (lead point next : ℕ) → pointsOf lead point next .number ≡ 0
 sign-number lead point next = go (known lead)
   where
@@ -121,16 +110,10 @@ module _ (r : Row) (n : ℕ) where
     where
       go : Told g → Accepted r
       go (inl a) = a .1
-      go (inr x) = absurd (no-nought (x .refusal) (sym (x .number) ∙ none))
+      go (inr x) = absurd (omega (arith, refusal-not-0 (x .refusal), x .number, none))
 
 -- THE ENDS OF `steps_line`: n cells of `row` are those of the line
 module _ (line points row out points' row' : List ℕ) (n : ℕ) (shown : ShowsRow line points row n points' row') where
-  pub row-is : take n row' ≡ rowOf line
-  row-is = front (rowOf line) row row' n (shown .count) (shown .cells)
-
-  pub row-count : n ≡ length (take n row')
-  row-count = shown .count ∙ sym (ap length row-is)
-
   ended : (p : List ℕ) → StepsPrints line p → (r : ℕ) (out' : List ℕ) → Prints out 0 p r out'
       → StepsLine line points row out r points' row' out' × (r ≤ length out')
   ended p right r out' prints = (
@@ -143,7 +126,7 @@ module _ (line points row out points' row' : List ℕ) (n : ℕ) (shown : ShowsR
   ends-refused g h not-nought r out' p =
       let x = refused-by (take n row') 0 g h not-nought in
       ended (refusalLine (numberOf (x .refusal)) (secondOf (x .refusal)))
-      (prints-refusal (x .refusal) (subst (λ (k : Row). RowRefused castilian k (x .refusal)) row-is (x .right))) r out'
+      (prints-refusal (x .refusal) (subst (λ (k : Row). RowRefused castilian k (x .refusal)) (row-is line points row n points' row' shown) (x .right))) r out'
       (prints-as out 0 _ _ r out' (ap (λ (k : ℕ). refusalLine k (g .second)) (x .number) ∙ ap (refusalLine (numberOf (x .refusal))) (x .second)) p)
 
   pub ends-accepted : (a : ℕ) (la : List ℕ) (b : ℕ) (lb : List ℕ) (r : ℕ) (out' : List ℕ)
@@ -152,5 +135,5 @@ module _ (line points row out points' row' : List ℕ) (n : ℕ) (shown : ShowsR
   ends-accepted a la b lb r out' first signs last =
       let lines : List ℕ = signLines 0 (signsOf castilian (signs .text)) in
       ended (print "ok" ++ lines ++ lineEnd ∷ [])
-      (prints-signs (signs .text) (subst (λ (k : Row). ReadsAs castilian k (signs .text)) row-is (signs .reads))) r out'
+      (prints-signs (signs .text) (subst (λ (k : Row). ReadsAs castilian k (signs .text)) (row-is line points row n points' row' shown) (signs .reads))) r out'
       (prints-on out 0 (print "ok" ++ lines) b lb (lineEnd ∷ []) r out' (prints-on out 0 (print "ok") a la lines b lb first (signs .prints)) last)

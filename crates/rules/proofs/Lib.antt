@@ -16,3 +16,4 @@ pub mod Answers
 pub mod Steps
 pub mod Worked
 pub mod Demands
+pub mod Refusals

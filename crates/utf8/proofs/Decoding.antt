@@ -1,5 +1,5 @@
 -- All code points of some bytes. In order: one sequence and then the rest; what is stored, as far as there is room; between two sequences (`Mid`): the code points
--- still to come, stored behind those that are, make the whole. Assumes nothing.
+-- still to come, stored behind those that are, make the whole; with room for all of them. Assumes nothing.
 use mathlib.Core.List.{List, [], _∷_, _++_}
 use mathlib.Core.Logic.{⊎-elim}
 use mathlib.Core.Path.{_≡_, refl, sym, ap, _∙_}
@@ -7,8 +7,9 @@ use Prim.Native.Nat.{ℕ, zero, suc, _+_, _-_, _≤_, _<_}
 use native.Mathlib.Omega.{arith}
 use native.Mathlib.Nat.{not-suc-le-zero, zero-add, sub-zero}
 use lib.ListN.{length, take, drop, set, length-take, length-set, drop-of-length-le}
-use lib.Seq.{drop-drop, set-out, sets, sets-eq}
+use lib.Seq.{drop-drop, take-all, set-out, sets, sets-eq}
 use Rattle.rows.specs.Laid.{laid}
+use Rattle.rows.proofs.Laid.{front}
 use Rattle.rules.proofs.Finite.{le-or-lt}
 use Rattle.utf8.specs.Decoding.{lengthAt, pointAt, decodedFrom, decoded, Decoded}
 use Rattle.utf8.specs.Leads.{NextIs}
@@ -20,14 +21,14 @@ behind zero bs = refl
 behind (suc k) [] = refl
 behind (suc k) (b ∷ bs) = behind k bs
 
-front : (bs : List ℕ) → 0 < length bs → decoded bs ≡ pointAt bs ∷ decoded (drop (suc (lengthAt bs - 1)) bs)
-front [] h = absurd (not-suc-le-zero h)
-front (b ∷ bs) h = ap (λ (t : List ℕ). pointAt (b ∷ bs) ∷ t) (behind (lengthAt (b ∷ bs) - 1) bs)
+first-on : (bs : List ℕ) → 0 < length bs → decoded bs ≡ pointAt bs ∷ decoded (drop (suc (lengthAt bs - 1)) bs)
+first-on [] h = absurd (not-suc-le-zero h)
+first-on (b ∷ bs) h = ap (λ (t : List ℕ). pointAt (b ∷ bs) ∷ t) (behind (lengthAt (b ∷ bs) - 1) bs)
 
 pub decoded-on : (bytes : List ℕ) (at next : ℕ) → 0 < length (drop at bytes) → next ≡ at + suc (lengthAt (drop at bytes) - 1)
     → decoded (drop at bytes) ≡ pointAt (drop at bytes) ∷ decoded (drop next bytes)
 decoded-on bytes at next h e =
-    front (drop at bytes) h
+    first-on (drop at bytes) h
     ∙ ap (λ (r : List ℕ). pointAt (drop at bytes) ∷ decoded r) (drop-drop (suc (lengthAt (drop at bytes) - 1)) at bytes ∙ ap (λ (k : ℕ). drop k bytes) (sym e))
 
 -- WHAT IS STORED
@@ -77,3 +78,14 @@ module _ (bytes lent : List ℕ) where
           count = omega (arith, m .counted, ap length none);
           text = sym (ap (λ (t : List ℕ). sets text count t) none) ∙ m .stored ∙ stored-is (decoded bytes) lent;
         }
+
+-- WITH ROOM FOR ALL OF IT: the code points are laid in front of what was lent, and are what stands before their count
+module _ (bytes lent : List ℕ) (count : ℕ) (new : List ℕ) (room : length bytes ≤ length lent) (d : Decoded bytes lent count new) (few : count ≤ length bytes) where
+  pub all-laid : new ≡ laid (decoded bytes) lent
+  all-laid = d .text ∙ ap (λ (t : List ℕ). laid t lent) (take-all (length lent) (decoded bytes) (omega (arith, d .count, few, room)))
+
+  pub all-points : take count new ≡ decoded bytes
+  all-points = front (decoded bytes) lent new count (d .count) all-laid
+
+  pub all-counted : count ≡ length (take count new)
+  all-counted = d .count ∙ sym (ap length all-points)

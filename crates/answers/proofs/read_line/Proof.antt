@@ -3,7 +3,8 @@ use mathlib.Core.Path.{_≡_}
 use Prim.Native.Nat.{_≤_}
 use lib.ListN.{length, take}
 use Rattle.patterns.specs.Patterns.{rowOf}
-use Rattle.answers.proofs.Lines.{Answered, row-count, given-known, reads-refusal, text-given, reads-text}
+use Rattle.patterns.proofs.Patterns.{row-count}
+use Rattle.answers.proofs.Lines.{Answered, given-known, reads-refusal, text-given, reads-text}
 use borrow.Author.Needs.{needs}
 use Rattle.answers.proofs.read_line.Statement.{statement}
 use Rattle.answers.proofs.read_line.Tie as tie

@@ -3,7 +3,8 @@ use mathlib.Core.Path.{_≡_}
 use Prim.Native.Nat.{_≤_}
 use lib.ListN.{length, take}
 use Rattle.utf8.specs.Decoding.{decoded}
-use Rattle.answers.proofs.Lines.{Printed, line-count, given-known, transcribes-refusal, cells-given, transcribes-cells}
+use Rattle.utf8.proofs.Decoding.{all-counted}
+use Rattle.answers.proofs.Lines.{Printed, given-known, transcribes-refusal, cells-given, transcribes-cells}
 use borrow.Author.Needs.{needs}
 use Rattle.answers.proofs.transcribe_line.Statement.{statement}
 use Rattle.answers.proofs.transcribe_line.Tie as tie
@@ -26,7 +27,7 @@ slice-aggregate-desk-transcribe : tie.Need-slice-aggregate-desk-transcribe
 slice-aggregate-desk-transcribe c =
     let d = c .before .before .before .decode in
     let s = c .before .before .before .before .before .before .before .before .before in
-    line-count (s .args .line .now) (s .args .points .now) (d .result) (d .last .1 .0) (s .pre) (d .ensures .0) (d .ensures .1)
+    all-counted (s .args .line .now) (s .args .points .now) (d .result) (d .last .1 .0) (s .pre) (d .ensures .0) (d .ensures .1)
 
 desk-transcribe-requires : tie.Need-desk-transcribe-requires
 desk-transcribe-requires c κs = search needs

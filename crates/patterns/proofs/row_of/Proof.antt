@@ -1,6 +1,7 @@
 -- `row_of`: what `decode` and `fill_row` promise, put together by the laws of proofs/Patterns.antt. Assumes nothing.
 use native.Mathlib.Omega.{arith}
-use Rattle.patterns.proofs.Patterns.{count-is, shows-row}
+use Rattle.utf8.proofs.Decoding.{all-counted}
+use Rattle.patterns.proofs.Patterns.{shows-row}
 use borrow.Author.Needs.{needs}
 use Rattle.patterns.proofs.row_of.Statement.{statement}
 use Rattle.patterns.proofs.row_of.Tie as tie
@@ -19,7 +20,7 @@ slice-aggregate-fill-row : tie.Need-slice-aggregate-fill-row
 slice-aggregate-fill-row c =
     let d = c .before .before .before in
     let s = d .before .before .before .before .before in
-    count-is (s .args .line .now) (s .args .points .now) (d .decode .last .1 .0) (d .decode .result) (d .decode .ensures .0) (d .decode .ensures .1) (s .pre .0)
+    all-counted (s .args .line .now) (s .args .points .now) (d .decode .result) (d .decode .last .1 .0) (s .pre .0) (d .decode .ensures .0) (d .decode .ensures .1)
 
 fill-row-requires : tie.Need-fill-row-requires
 fill-row-requires c κs =
@@ -27,7 +28,7 @@ fill-row-requires c κs =
     let s = d .before .before .before .before .before in
     omega (
       arith,
-      count-is (s .args .line .now) (s .args .points .now) (d .decode .last .1 .0) (d .decode .result) (d .decode .ensures .0) (d .decode .ensures .1) (s .pre .0),
+      all-counted (s .args .line .now) (s .args .points .now) (d .decode .result) (d .decode .last .1 .0) (s .pre .0) (d .decode .ensures .0) (d .decode .ensures .1),
       d .decode .ensures .1,
       s .pre .1,
     )
@@ -43,7 +44,7 @@ returns c =
     let f = c .before .before in
     let d = f .before .before .before .before .before in
     let s = d .before .before .before .before .before in
-    shows-row (s .args .line .now) (s .args .points .now) (d .decode .last .1 .0) (d .decode .result) (d .decode .ensures .0) (d .decode .ensures .1) (s .pre .0)
+    shows-row (s .args .line .now) (s .args .points .now) (d .decode .result) (d .decode .last .1 .0) (s .pre .0) (d .decode .ensures .0) (d .decode .ensures .1)
     (s .args .row .now) (f .fill-row .last .1 .0) (s .pre .1) (f .fill-row .ensures)
 
 pub row-of-spec : {M : Type 1} → statement M

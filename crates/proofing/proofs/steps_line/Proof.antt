@@ -1,5 +1,6 @@
 -- `steps_line`: the row of the line, what the first step tells of it, and the two ends. `o` is where the row is known, `d` where the first step is. Assumes nothing.
-use Rattle.proofing.proofs.Steps.{row-count, accepted-by, ends-refused, ends-accepted}
+use Rattle.patterns.proofs.Patterns.{row-count}
+use Rattle.proofing.proofs.Steps.{accepted-by, ends-refused, ends-accepted}
 use borrow.Author.Needs.{needs}
 use Rattle.proofing.proofs.steps_line.Statement.{statement}
 use Rattle.proofing.proofs.steps_line.Tie as tie
@@ -22,7 +23,7 @@ slice-aggregate-desk-step : tie.Need-slice-aggregate-desk-step
 slice-aggregate-desk-step c =
     let o = c .before .before .before .before .before in
     let s = o .before .before .before .before .before .before .before in
-    row-count (s .args .line .now) (s .args .points .now) (s .args .row .now) (s .args .out .now) (o .row-of .last .1 .0) (o .row-of .last .1 .1 .0) (o .row-of .result) (o .row-of .ensures .0)
+    row-count (s .args .line .now) (s .args .points .now) (s .args .row .now) (o .row-of .result) (o .row-of .last .1 .0) (o .row-of .last .1 .1 .0) (o .row-of .ensures .0)
 
 desk-step-requires : tie.Need-desk-step-requires
 desk-step-requires c κs = search needs
@@ -62,7 +63,7 @@ slice-aggregate-put-signs : tie.Need-slice-aggregate-put-signs
 slice-aggregate-put-signs c =
     let o = c .before .before .before .before .before .before .before .before .before .before .before .before .before .before .before in
     let s = o .before .before .before .before .before .before .before in
-    row-count (s .args .line .now) (s .args .points .now) (s .args .row .now) (s .args .out .now) (o .row-of .last .1 .0) (o .row-of .last .1 .1 .0) (o .row-of .result) (o .row-of .ensures .0)
+    row-count (s .args .line .now) (s .args .points .now) (s .args .row .now) (o .row-of .result) (o .row-of .last .1 .0) (o .row-of .last .1 .1 .0) (o .row-of .ensures .0)
 
 put-signs-requires : tie.Need-put-signs-requires
 put-signs-requires c κs =
