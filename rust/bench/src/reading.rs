@@ -86,7 +86,7 @@ fn cases() -> Vec<Case> {
 }
 
 fn by_library(row: &[u8], text: &mut [u32]) -> Shown {
-    read(row, text).map_err(|refusal| (refusal.number as u8, refusal.second))
+    read(row, text).map_err(|refusal| (refusal.number(), refusal.second()))
 }
 
 fn by_plain_lent(row: &[u8], text: &mut [u32]) -> Shown {

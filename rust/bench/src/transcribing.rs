@@ -2,7 +2,7 @@
 use crate::prose::{curly_quotes_then_prose, prose, prose_then_curly_quotes, Random};
 use crate::text::{capitals_then_small, Text};
 use crate::timing::{best, lines, rounds, LONG_LINES, PASSES, SHORT_LINES};
-use omdurgash::{transcribe, Number, Refusal, LONGEST_ROW};
+use omdurgash::{transcribe, Refusal, LONGEST_ROW};
 use std::hint::black_box;
 
 /// What a row holds before a call: it is no cell.
@@ -29,7 +29,7 @@ fn accepted(text: Text) -> Line {
 /// The text with a code point behind it that has no sign.
 fn without_sign_at_end(text: Text) -> Line {
     let mut print = text.print;
-    let refusal = Refusal { number: Number::NoSign, second: print.len() };
+    let refusal = Refusal::NoSign { place: print.len() };
     print.push(u32::from('@'));
     Line { print, answer: Err(refusal), cells: Vec::new() }
 }
@@ -95,7 +95,7 @@ fn answers(case: &Case) -> String {
             let cells: usize = case.lines.iter().map(|line| line.cells.len()).sum();
             format!("{:.1} cells", cells as f64 / case.lines.len() as f64)
         }
-        Err(refusal) => format!("no {} {}", refusal.number as u8, refusal.second),
+        Err(refusal) => format!("no {} {}", refusal.number(), refusal.second()),
     }
 }
 

@@ -4,7 +4,7 @@
 //! after the other; only the last stretch is the print's own. Of a row nothing but the length is looked at, so none of it stands in the memory.
 //! It takes some megabytes, and Linux on x86-64 or AArch64, where the numbers below are the same.
 #![cfg(all(any(target_arch = "x86_64", target_arch = "aarch64"), target_os = "linux"))]
-use omdurgash::{read, step, transcribe, Number, Refusal};
+use omdurgash::{read, step, transcribe, Refusal};
 use std::ffi::{c_char, c_int, c_long, c_uint, c_void};
 use std::fs::File;
 use std::io::{Error, Write};
@@ -131,7 +131,7 @@ fn length_is_reported(length: usize, reported: usize) {
     };
     let mut row = [0xA5; 16];
     let answer = transcribe(mapped.print(), &mut row);
-    assert_eq!(answer, Err(Refusal { number: Number::TooLong, second: reported }), "print of the normalised length {length}");
+    assert_eq!(answer, Err(Refusal::TooLong { length: reported }), "print of the normalised length {length}");
     assert_eq!(row, [0xA5; 16], "print of the normalised length {length}");
 }
 
@@ -178,7 +178,7 @@ fn row_length_is_reported(length: usize, reported: usize) {
         Ok(mapped) => mapped,
         Err(error) => return say(&format!("NOT TESTED: a row of {length} cells cannot be mapped here: {error}")),
     };
-    let refusal = Refusal { number: Number::TooLong, second: reported };
+    let refusal = Refusal::TooLong { length: reported };
     let mut text = [u32::MAX; 16];
     assert_eq!(read(mapped.row(), &mut text), Err(refusal), "a row of {length} cells");
     assert_eq!(text, [u32::MAX; 16], "a row of {length} cells");

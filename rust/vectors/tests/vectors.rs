@@ -1,5 +1,5 @@
 //! Every vector through the library, at several rooms.
-use omdurgash::{transcribe, Number, Refusal};
+use omdurgash::{transcribe, Refusal};
 use std::fs::read_to_string;
 use vectors::{of_repository, parse, say, Answer, Vector};
 
@@ -20,12 +20,13 @@ const GUARD: usize = 64;
 /// An answer as the desk shows it: 0 and the count of cells, or a refusal's two numbers.
 type Shown = (u8, usize);
 
-const NEEDS_ROOM: u8 = Number::NeedsRoom as u8;
+/// Paper 01's number for an answer that needs more room than lent.
+const NEEDS_ROOM: u8 = 6;
 
 fn shown(answer: Result<usize, Refusal>) -> Shown {
     match answer {
         Ok(count) => (0, count),
-        Err(refusal) => (refusal.number as u8, refusal.second),
+        Err(refusal) => (refusal.number(), refusal.second()),
     }
 }
 

@@ -4,7 +4,7 @@
 //! library; that the library is called as it expects is this file's part.
 //!
 //! ```
-//! use omdurgash::{read, step, transcribe, Number, Refusal};
+//! use omdurgash::{read, step, transcribe, Refusal};
 //!
 //! // 3456-125-5-12
 //! let mut row = [0; 8];
@@ -30,53 +30,22 @@
 //!
 //! // Print that would share its cells with another, and a row that no text has.
 //! let print: Vec<u32> = "1.b".chars().map(u32::from).collect();
-//! assert_eq!(transcribe(&print, &mut [0; 8]), Err(Refusal { number: Number::SharesCells, second: 2 }));
-//! assert_eq!(read(&[40, 1, 40, 3], &mut text), Err(Refusal { number: Number::NoText, second: 0 }));
+//! assert_eq!(transcribe(&print, &mut [0; 8]), Err(Refusal::SharesCells { place: 2 }));
+//! assert_eq!(read(&[40, 1, 40, 3], &mut text), Err(Refusal::NoText));
 //! # Ok::<(), Refusal>(())
 //! ```
 //!
-//! A new function of the library is declared in the `extern` block here and in `include/omdurgash.h`; a new refusal is a variant of
-//! [`Number`] and an arm of its `of`.
-use std::error::Error;
-use std::fmt;
+//! A new function of the library is declared in the `extern` block here and in `include/omdurgash.h`; `refusal` tells what
+//! a new refusal changes.
+mod refusal;
+
+pub use refusal::Refusal;
 
 /// Room for so many cells is never too little: no print that is accepted has more. A row of more cells is refused.
 pub const LONGEST_ROW: usize = 12_288;
 
 /// Room for so many code points is never too little: no row that is accepted has a longer text. Print whose text is longer is refused.
 pub const LONGEST_TEXT: usize = 4_096;
-
-/// Why print or a row is refused, by the number that the desk shows. A place counts from 0: in the text, which is the normalised print, or in the
-/// row. A length above 4,294,967,295 is given as that number.
-#[derive(Clone, Copy, Debug, PartialEq, Eq, Hash)]
-#[repr(u8)]
-pub enum Number {
-    /// The text of the print is above 4,096 code points, the row is above 12,288 cells, or it has a text above 4,096. Second: that length.
-    TooLong = 1,
-    /// A code point of the print has no sign. Second: its place.
-    NoSign = 2,
-    /// A pair mark of the print stands against the pair rule. Second: its place; or the length of the text, where one is open at the end.
-    PairBroken = 3,
-    /// º, ª or U+2044 stands outside an ordinal or a fraction. Second: its place.
-    OutsideForm = 4,
-    /// The print would share its cells with another print. Second: the place where it would.
-    SharesCells = 5,
-    /// There is too little room for the cells, or for the text. Second: the room that they need.
-    NeedsRoom = 6,
-    /// A byte of the row is above 63. Second: the first place of such a one.
-    NotACell = 7,
-    /// No text of any length has the row. Second: 0.
-    NoText = 8,
-}
-
-/// Why print or a row is refused, and where or by how much.
-#[derive(Clone, Copy, Debug, PartialEq, Eq, Hash)]
-pub struct Refusal {
-    /// Why.
-    pub number: Number,
-    /// What it is depends on the number, and is told there.
-    pub second: usize,
-}
 
 /// What a step over a row gives: the code points of the sign that starts at a place, and the place after it.
 ///
@@ -146,14 +115,14 @@ pub fn transcribe(print: &[u32], row: &mut [u8]) -> Result<usize, Refusal> {
 /// three full stops for U+2026. The elements after the count are as they were.
 ///
 /// ```
-/// use omdurgash::{read, Number, Refusal, LONGEST_TEXT};
+/// use omdurgash::{read, Refusal, LONGEST_TEXT};
 ///
 /// let mut text = [0; LONGEST_TEXT];
 /// assert_eq!(read(&[60, 6, 1], &mut text), Ok(3)); // 3456-23-1
 /// assert_eq!(text[..3], ['2', '.', 'ª'].map(u32::from));
 ///
-/// assert_eq!(read(&[60, 6, 1], &mut text[..2]), Err(Refusal { number: Number::NeedsRoom, second: 3 }));
-/// assert_eq!(read(&[36, 36, 36, 64], &mut text), Err(Refusal { number: Number::NotACell, second: 3 }));
+/// assert_eq!(read(&[60, 6, 1], &mut text[..2]), Err(Refusal::NeedsRoom { room: 3 }));
+/// assert_eq!(read(&[36, 36, 36, 64], &mut text), Err(Refusal::NotACell { place: 3 }));
 /// ```
 ///
 /// # Errors
@@ -200,42 +169,7 @@ impl Shown {
     fn answer(self) -> Result<usize, Refusal> {
         match self.number {
             0 => Ok(self.second),
-            number => Err(Refusal { number: Number::of(number), second: self.second }),
+            number => Err(Refusal::of(number, self.second)),
         }
     }
 }
-
-impl Number {
-    fn of(number: usize) -> Number {
-        match number {
-            1 => Number::TooLong,
-            2 => Number::NoSign,
-            3 => Number::PairBroken,
-            4 => Number::OutsideForm,
-            5 => Number::SharesCells,
-            6 => Number::NeedsRoom,
-            7 => Number::NotACell,
-            8 => Number::NoText,
-            // Never reached: the library is proved to show no other number.
-            _ => unreachable!("the desk showed {number}"),
-        }
-    }
-}
-
-impl fmt::Display for Refusal {
-    fn fmt(&self, f: &mut fmt::Formatter) -> fmt::Result {
-        let second = self.second;
-        match self.number {
-            Number::TooLong => write!(f, "it is too long: {second}"),
-            Number::NoSign => write!(f, "the code point at {second} has no sign"),
-            Number::PairBroken => write!(f, "the pair rule is broken at {second}"),
-            Number::OutsideForm => write!(f, "the sign at {second} is outside an ordinal or a fraction"),
-            Number::SharesCells => write!(f, "the print at {second} would share its cells with another"),
-            Number::NeedsRoom => write!(f, "there is too little room: it needs {second}"),
-            Number::NotACell => write!(f, "the byte at {second} is no cell"),
-            Number::NoText => write!(f, "no text has this row"),
-        }
-    }
-}
-
-impl Error for Refusal {}
