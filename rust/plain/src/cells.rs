@@ -1,4 +1,4 @@
-//! The sign list of paper 01, as tables over the cells.
+//! The sign list of paper 01: its lists, and tables of them over the cells.
 
 /// A cell from its dots, as the paper writes it: `cell("46")`. The blank cell is 0.
 pub const fn cell(dots: &str) -> usize {
@@ -31,28 +31,31 @@ pub const D3456: usize = cell("3456");
 pub const END: usize = 64;
 
 /// A capital's code point is that of its small letter less this.
-const TO_SMALL: u32 = 32;
+pub const TO_SMALL: u32 = 32;
 
+/// Small letters.
 #[rustfmt::skip]
-const LETTERS: [(char, &str); 33] = [
+pub const LETTERS: [(char, &str); 33] = [
     ('a', "1"), ('b', "12"), ('c', "14"), ('d', "145"), ('e', "15"), ('f', "124"), ('g', "1245"), ('h', "125"), ('i', "24"), ('j', "245"),
     ('k', "13"), ('l', "123"), ('m', "134"), ('n', "1345"), ('ñ', "12456"), ('o', "135"), ('p', "1234"), ('q', "12345"), ('r', "1235"),
     ('s', "234"), ('t', "2345"), ('u', "136"), ('v', "1236"), ('w', "2456"), ('x', "1346"), ('y', "13456"), ('z', "1356"),
     ('á', "12356"), ('é', "2346"), ('í', "34"), ('ó', "346"), ('ú', "23456"), ('ü', "1256"),
 ];
 
+/// The digits of a number and of a denominator: the cells of a to j.
 #[rustfmt::skip]
-const DIGITS: [(char, &str); 10] = [
+pub const DIGITS: [(char, &str); 10] = [
     ('1', "1"), ('2', "12"), ('3', "14"), ('4', "145"), ('5', "15"), ('6', "124"), ('7', "1245"), ('8', "125"), ('9', "24"), ('0', "245"),
 ];
 
+/// The digits of an ordinal and of a numerator.
 #[rustfmt::skip]
-const LOWER_DIGITS: [(char, &str); 10] = [
+pub const LOWER_DIGITS: [(char, &str); 10] = [
     ('1', "2"), ('2', "23"), ('3', "25"), ('4', "256"), ('5', "26"), ('6', "235"), ('7', "2356"), ('8', "236"), ('9', "35"), ('0', "356"),
 ];
 
 /// Signs of one cell that mean the same wherever a sign may start.
-const PUNCTUATION: [(char, &str); 8] =
+pub const PUNCTUATION: [(char, &str); 8] =
     [(' ', "0"), ('.', "3"), (',', "2"), (';', "23"), (':', "25"), ('(', "126"), (')', "345"), ('=', "2356")];
 
 /// The marks of one cell that open a pair, and, in the same order, those that close it.

@@ -1,51 +1,34 @@
-//! Rows of six-dot braille cells to Spanish print, in plain Rust: the rival and the cross-check of the exported library, and nothing that it is
-//! built on. It is written from paper 01 alone, and for speed. There are two readers by the same rules (`reader`): [`read`] makes one pass over the
-//! row into a text of its own and copies it; [`read_lent`] makes two, and copies nothing, as the library does.
+//! Spanish print to rows of six-dot braille cells, and back, in plain Rust: the rival and the cross-check of the exported library, and nothing that it
+//! is built on. It is written from paper 01 alone, and for speed.
 //!
-//! A new sign of one cell is an entry of `PUNCTUATION`; of two cells, an entry of the table for its first cell; a new pair kind, an entry of
-//! `OPENERS` and of `CLOSERS`.
+//! [`transcribe`] goes from print to a row (`transcriber`). There are two readers by the same rules (`reader`): [`read`] makes one pass over the row
+//! into a text of its own and copies it; [`read_lent`] makes two, and copies nothing, as the library does. [`step`] gives one sign of a row.
+//!
+//! A new sign of one cell is an entry of `PUNCTUATION`; of two cells, an entry of the table for its first cell, and of `TWO_CELLS`; a new pair kind, an
+//! entry of `OPENERS` and of `CLOSERS`, a `Pair`, and an arm for each of its marks.
 #![forbid(unsafe_code)]
 
 mod cells;
+mod normal;
+mod print;
 mod reader;
+mod refusal;
+mod rows;
+mod step;
+mod transcriber;
 
+pub use refusal::Refusal;
+pub use step::{step, Step};
+
+use normal::normalised_len;
 use reader::{pass, Count, Latest, Lent};
+use refusal::reported;
 
 /// A row of more cells is refused.
 pub const LONGEST_ROW: usize = 12_288;
 
 /// A row with a longer text is refused.
 pub const LONGEST_TEXT: usize = 4_096;
-
-/// A greater length is reported as this.
-const LONGEST_REPORTED: usize = 4_294_967_295;
-
-/// Why a row is refused.
-#[derive(Clone, Copy, Debug, PartialEq, Eq)]
-pub enum Refusal {
-    /// It has more than 12,288 cells: so many.
-    RowTooLong(usize),
-    /// The byte at this place is the first above 63.
-    NotACell(usize),
-    /// No text has it.
-    NoText,
-    /// Its text has more than 4,096 code points: so many.
-    TextTooLong(usize),
-    /// Its text needs this room.
-    NeedsRoom(usize),
-}
-
-impl Refusal {
-    /// The two numbers that the desk shows.
-    pub fn shown(self) -> (u8, usize) {
-        match self {
-            Refusal::RowTooLong(length) | Refusal::TextTooLong(length) => (1, length),
-            Refusal::NeedsRoom(room) => (6, room),
-            Refusal::NotACell(place) => (7, place),
-            Refusal::NoText => (8, 0),
-        }
-    }
-}
 
 /// Writes the text of `row` into `text`, from its first element on, and gives the count of code points. The elements after them are as they were.
 ///
@@ -92,7 +75,7 @@ fn read_within<const N: usize>(row: &[u8], text: &mut [u32]) -> Result<usize, Re
 #[inline(always)]
 fn all_cells(row: &[u8]) -> Result<(), Refusal> {
     if row.len() > LONGEST_ROW {
-        return Err(Refusal::RowTooLong(row.len().min(LONGEST_REPORTED)));
+        return Err(Refusal::RowTooLong(reported(row.len())));
     }
     // All bytes in one go; which it is, only where there is one.
     if row.iter().fold(0, |all, byte| all | byte) > 63 {
@@ -108,6 +91,27 @@ fn room_for(len: usize, text: &mut [u32]) -> Result<&mut [u32], Refusal> {
         return Err(Refusal::TextTooLong(len));
     }
     text.get_mut(..len).ok_or(Refusal::NeedsRoom(len))
+}
+
+/// Writes the row of `print` into `row`, from its first element on, and gives the count of cells. The elements after them are as they were.
+///
+/// # Errors
+///
+/// [`Refusal::TextTooLong`] before all else; then the fault at the least place of the normalised text; then [`Refusal::NeedsRoom`]. Every element of
+/// `row` is then as it was.
+pub fn transcribe(print: &[u32], row: &mut [u8]) -> Result<usize, Refusal> {
+    let len = normalised_len(print);
+    if len > LONGEST_TEXT {
+        return Err(Refusal::TextTooLong(reported(len)));
+    }
+    let mut count = rows::Count::default();
+    let text_len = transcriber::pass(print, &mut count)?;
+    debug_assert_eq!(text_len, len, "the normalised text");
+    let cells = count.len;
+    let row = row.get_mut(..cells).ok_or(Refusal::NeedsRoom(cells))?;
+    let written = transcriber::pass(print, &mut rows::Lent { row, len: 0 });
+    debug_assert!(written.is_ok(), "the passes differ");
+    Ok(cells)
 }
 
 #[cfg(test)]

@@ -5,8 +5,8 @@ use crate::cells::*;
 
 /// What the code points of a text come to, in their order.
 pub trait Sink {
-    /// Takes the next one.
-    fn put(&mut self, point: u32);
+    /// Takes the next one, and the place in the row after its cells.
+    fn put(&mut self, point: u32, end: usize);
 }
 
 /// Counts them.
@@ -18,7 +18,7 @@ pub struct Count {
 
 impl Sink for Count {
     #[inline(always)]
-    fn put(&mut self, _: u32) {
+    fn put(&mut self, _: u32, _: usize) {
         self.len += 1;
     }
 }
@@ -33,7 +33,7 @@ pub struct Lent<'a> {
 
 impl Sink for Lent<'_> {
     #[inline(always)]
-    fn put(&mut self, point: u32) {
+    fn put(&mut self, point: u32, _: usize) {
         self.text[self.len] = point;
         self.len += 1;
     }
@@ -49,7 +49,7 @@ pub struct Latest<'a, const N: usize> {
 
 impl<const N: usize> Sink for Latest<'_, N> {
     #[inline(always)]
-    fn put(&mut self, point: u32) {
+    fn put(&mut self, point: u32, _: usize) {
         self.text[self.len % N] = point;
         self.len += 1;
     }
@@ -81,8 +81,8 @@ impl<S: Sink> Reader<'_, S> {
     /// A code point that is read with so many cells.
     #[inline(always)]
     fn put(&mut self, point: u32, cells: usize) {
-        self.sink.put(point);
         self.at += cells;
+        self.sink.put(point, self.at);
     }
 
     /// The cells that a table has, up to the first that it has not.
