@@ -1,11 +1,10 @@
 //! The vectors: print, and the cells that it must give or the refusal, here; rows, and the print that they must give or the refusal, in [`rows`].
 //! The head of `vectors/print-to-cells.txt` and that of `vectors/cells-to-print.txt` tell the form. With them, what the tests need to know of
-//! paper 01 besides: [`normal`], [`signs`] and, for print by the thousand, [`random`].
+//! paper 01 besides: [`normal`] and [`signs`].
 //!
 //! The form is taken strictly: a line that may not stand where it stands is an error with its number, so that no vector is passed over.
 //! A new sort of line is an arm of `Reading::take` and a field of `Begun`; `crates/run_vectors` reads the same file and changes with it.
 pub mod normal;
-pub mod random;
 pub mod rows;
 pub mod signs;
 
