@@ -1,10 +1,9 @@
-//! Reading and stepping through the library: every vector at several rooms and places, every row of up to two cells, the greatest lengths, and
-//! rows at random, on which the plain readers and the library must agree. The plain readers go through the same, steps apart.
-use omdurgash::{read, step, transcribe, Refusal, Step, LONGEST_ROW, LONGEST_TEXT};
+//! Reading and stepping through the library: every vector at several rooms and places, every byte that is no cell, and the greatest lengths. The plain
+//! readers and the plain step go through the same.
+use omdurgash::{read, step, Refusal, LONGEST_ROW, LONGEST_TEXT};
 use std::collections::HashMap;
 use std::fs::read_to_string;
 use vectors::normal::normalised;
-use vectors::random::Random;
 use vectors::rows::{self, RowVector};
 use vectors::signs::{signs, Sign};
 use vectors::{of_repository, parse, say, Answer};
@@ -56,14 +55,6 @@ fn by_plain_copying(row: &[u8], text: &mut [u32]) -> Result<usize, No> {
     plain::read(row, text).map_err(plain::Refusal::shown)
 }
 
-/// What the plain reader that copies gives where there is room enough.
-fn plainly(row: &[u8]) -> Due {
-    let mut text = vec![0; LONGEST_TEXT];
-    let length = by_plain_copying(row, &mut text)?;
-    text.truncate(length);
-    Ok(text)
-}
-
 /// Nothing, one short of the text, just the text, one over, and plenty. A row that is refused has no text.
 fn rooms(due: &Due) -> Vec<usize> {
     let length = due.as_ref().map_or(0, Vec::len);
@@ -113,9 +104,17 @@ fn places(row: &[u8]) -> Vec<usize> {
     places
 }
 
-/// The code points and the next place, or the refusal.
-fn stepped(answer: Result<Step, Refusal>) -> Result<(Vec<u32>, usize), No> {
-    answer.map(|sign| (sign.points().to_vec(), sign.next())).map_err(no)
+/// What a step gives: the code points and the next place, or the refusal.
+type Stepped = Result<(Vec<u32>, usize), No>;
+
+const STEPPERS: [(&str, fn(&[u8], usize) -> Stepped); 2] = [("the library", step_by_library), ("the plain step", step_plainly)];
+
+fn step_by_library(row: &[u8], place: usize) -> Stepped {
+    step(row, place).map(|sign| (sign.points().to_vec(), sign.next())).map_err(no)
+}
+
+fn step_plainly(row: &[u8], place: usize) -> Stepped {
+    plain::step(row, place).map(|sign| (sign.points[..sign.count].to_vec(), sign.next)).map_err(plain::Refusal::shown)
 }
 
 /// Steps at the places. The error tells what went wrong.
@@ -129,9 +128,11 @@ fn steps(row: &[u8], due: &Due, places: &[usize]) -> Result<(), String> {
             Ok(signs) => Ok(signs.get(&place).map_or((Vec::new(), place), |sign| (sign.points.clone(), sign.next))),
             Err(no) => Err(*no),
         };
-        let got = stepped(step(row, place));
-        if got != wanted {
-            return Err(format!("place {place}: the step gives {got:?} and should give {wanted:?}"));
+        for (name, step) in STEPPERS {
+            let got = step(row, place);
+            if got != wanted {
+                return Err(format!("{name}, place {place}: the step gives {got:?} and should give {wanted:?}"));
+            }
         }
     }
     Ok(())
@@ -202,44 +203,6 @@ fn every_row_vector() {
     say(&format!("{} row vectors, 0 failed", vectors.len()));
 }
 
-/// Every code point that has a sign of its own: all below U+3000, and the two of the private area.
-fn points() -> Vec<u32> {
-    let alone = |point: &u32| transcribe(&[*point], &mut [0; 3]).is_ok();
-    let marks = "¿?¡!«»‘’\u{E000}\u{E001}".chars().map(u32::from);
-    (0..0x3000).filter(alone).chain(marks).collect()
-}
-
-// A text of two code points at most has every row of two cells that has a text: no text is longer than its row, and an ordinal or a fraction has
-// three cells or more.
-#[test]
-fn every_row_of_two_cells() {
-    let points = points();
-    assert_eq!(points.len(), 2 * 33 + 10 + 26 + 10 + 1, "letters, digits, signs, marks, and U+2026");
-    let mut texts = HashMap::from([(Vec::new(), Vec::new())]);
-    let ones = points.iter().map(|&one| vec![one]);
-    let twos = points.iter().flat_map(|&one| points.iter().map(move |&two| vec![one, two]));
-    for print in ones.chain(twos) {
-        let mut row = [0; 18];
-        if let Ok(cells) = transcribe(&print, &mut row) {
-            texts.insert(row[..cells].to_vec(), normalised(&print));
-        }
-    }
-    let ones = (0..64).map(|one| vec![one]);
-    let twos = (0..64).flat_map(|one| (0..64).map(move |two| vec![one, two]));
-    let (mut rows, mut with_text) = (0, 0);
-    for row in [Vec::new()].into_iter().chain(ones).chain(twos) {
-        let due = texts.get(&row).cloned().ok_or((8, 0));
-        for room in 0..=3 {
-            let wrong = trials(&row, &due, room);
-            assert!(wrong.is_empty(), "{row:?}:\n{}\n", wrong.join("\n"));
-        }
-        steps(&row, &due, &[0, 1, 2, 3]).unwrap_or_else(|what| panic!("{row:?}: {what}"));
-        rows += 1;
-        with_text += usize::from(due.is_ok());
-    }
-    say(&format!("{rows} rows of up to two cells, {with_text} of them with a text"));
-}
-
 /// Asks for a refusal at several rooms and places, through every reader.
 fn refused(what: &str, row: &[u8], no: No) {
     let wrong = hold(what, row, &Err(no));
@@ -300,52 +263,4 @@ fn lengths_around_the_limits() {
 fn steps_through_a_long_row() {
     let row = [56, 52, 52].repeat(LONGEST_TEXT);
     steps_join(&row, &[u32::from('‰'); LONGEST_TEXT]).unwrap_or_else(|what| panic!("{what}"));
-}
-
-/// A row of one of three sorts: that of accepted print, such a one with a cell or two changed, dropped or added, and any cells.
-fn random_row(random: &mut Random, room: &mut [u8]) -> Vec<u8> {
-    let sort = random.below(4);
-    if sort == 0 {
-        let length = random.below(16);
-        return (0..length).map(|_| random.cell()).collect();
-    }
-    let mut row = loop {
-        let pieces = 1 + random.below(10);
-        if let Ok(cells) = transcribe(&random.print(pieces), room) {
-            break room[..cells].to_vec();
-        }
-    };
-    for _ in 1..sort {
-        random.spoil(&mut row);
-    }
-    if random.below(50) == 0 {
-        let at = random.below(row.len() + 1);
-        row.insert(at, 64 + random.below(192) as u8);
-    }
-    row
-}
-
-#[test]
-fn plain_readers_and_library_agree_on_random_rows() {
-    let (random, room) = (&mut Random(0x9E37_79B9_7F4A_7C15), &mut vec![0; LONGEST_ROW][..]);
-    let mut counts = [0; 9];
-    for _ in 0..200_000 {
-        let row = random_row(random, room);
-        let due = plainly(&row);
-        let room = match random.below(4) {
-            0 => random.below(row.len() + 2),
-            _ => due.as_ref().map_or(0, Vec::len) + random.below(2),
-        };
-        let wrong = trials(&row, &due, room);
-        assert!(wrong.is_empty(), "{row:?}:\n{}\n", wrong.join("\n"));
-        let place = random.below(row.len() + 2);
-        steps(&row, &due, &[0, place]).unwrap_or_else(|what| panic!("{row:?}: {what}"));
-        counts[due.map_or_else(|(number, _)| usize::from(number), |_| 0)] += 1;
-    }
-    // Else the rows are not what they are meant to be.
-    assert!(counts[0] > 60_000 && counts[7] > 1_000 && counts[8] > 40_000, "{counts:?}");
-    say(&format!(
-        "200000 rows at random: {} with a text, {} with a byte that is no cell, {} without a text",
-        counts[0], counts[7], counts[8]
-    ));
 }
