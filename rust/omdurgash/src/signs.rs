@@ -54,9 +54,9 @@ pub struct Signs<'a> {
 /// # What it costs
 ///
 /// Each sign is one [`step`], which follows from the row and the place alone and so reads the whole row: to go over a row takes a time that
-/// grows with the square of its length. On one machine a row of 40 cells was gone over in 3 to 4 microseconds, which nobody notices, and
-/// one of 4,000 in 20 to 40 milliseconds, where [`read()`](crate::read()) took 14 microseconds: for the text of a long row, without its
-/// places, use that.
+/// grows with the square of its length. On an x86-64 machine that had other work to do as well, a row of 40 cells was gone over in 4 to 8
+/// microseconds, which nobody notices, and one of 4,000 in 38 to 49 milliseconds, where [`read()`](crate::read()) took 10 to 12
+/// microseconds: for the text of a long row, without its places, use that.
 ///
 /// # Errors
 ///
