@@ -6,6 +6,8 @@
  *     rt staticlib desk
  *     cc -I include PROGRAM.c target/staticlib/libdesk.a -o PROGRAM
  *
+ * example.c, beside this file, is a program to begin with.
+ *
  * The library calls memset of the C library and nothing else. It allocates nothing, keeps nothing between calls and may be called from
  * several threads at once.
  *

@@ -1,175 +1,65 @@
 //! Spanish print to six-dot braille cells, and back: the proved library `desk`, for Rust.
 //!
-//! [`transcribe`] gives the cells of print, [`read()`] the text of cells, and [`step`] the text of one sign. What they answer is proved of the
-//! library; that the library is called as it expects is this file's part.
+//! # Two minutes
 //!
 //! ```
-//! use omdurgash::{read, step, transcribe, Refusal};
+//! use omdurgash::{braille, to_cells, to_text, Refusal};
 //!
-//! // 3456-125-5-12
-//! let mut row = [0; 8];
-//! let print: Vec<u32> = "8b".chars().map(u32::from).collect();
-//! assert_eq!(transcribe(&print, &mut row), Ok(4));
-//! assert_eq!(row, [60, 19, 16, 3, 0, 0, 0, 0]);
+//! let row = to_cells("¿Sí?")?;
+//! assert_eq!(row, [34, 40, 14, 12, 34]); // 26-46-234-34-26
+//! assert_eq!(braille(&row), "⠢⠨⠎⠌⠢");
+//! assert_eq!(to_text(&row)?, "¿Sí?");
 //!
-//! // .. and back
-//! let mut text = [0; 4];
-//! assert_eq!(read(&row[..4], &mut text), Ok(2));
-//! assert_eq!(text[..2], print);
-//!
-//! // .. sign by sign: each step gives the code points of a sign and the place after it
-//! let row = &row[..4];
-//! let mut place = 0;
-//! let mut signs = Vec::new();
-//! while place < row.len() {
-//!     let sign = step(row, place)?;
-//!     signs.push((place, sign.points().to_vec()));
-//!     place = sign.next();
-//! }
-//! assert_eq!(signs, [(0, vec![u32::from('8')]), (2, vec![u32::from('b')])]);
-//!
-//! // Print that would share its cells with another, and a row that no text has.
-//! let print: Vec<u32> = "1.b".chars().map(u32::from).collect();
-//! assert_eq!(transcribe(&print, &mut [0; 8]), Err(Refusal::SharesCells { place: 2 }));
-//! assert_eq!(read(&[40, 1, 40, 3], &mut text), Err(Refusal::NoText));
+//! // Print that would have the cells of other print is refused, with its place: the b would be a 2.
+//! assert_eq!(to_cells("1.b"), Err(Refusal::SharesCells { place: 2 }));
 //! # Ok::<(), Refusal>(())
 //! ```
 //!
-//! A new function of the library is declared in the `extern` block here and in `include/omdurgash.h`; `refusal` tells what
-//! a new refusal changes.
-mod refusal;
+//! A cell is a byte of 0 to 63: dot 1 counts 1, dot 2 counts 2, dot 3 counts 4, dot 4 counts 8, dot 5 counts 16, dot 6 counts 32; the blank
+//! cell is 0. A row is the cells of one paragraph, and has at most one text. The text is normalised print: U+2026 is three full stops in
+//! it, `“` and `”` are `«` and `»`, `‹` and `›` are `‘` and `’`, and a `º` or `ª` directly after a digit has a full stop before it.
+//!
+//! # What there is
+//!
+//! | | print to cells | cells to print | sign by sign |
+//! |---|---|---|---|
+//! | thin: they write to what is lent, and nothing is allocated | [`transcribe`] | [`read()`] | [`step`], [`signs`] |
+//! | they allocate what they give | [`to_cells`], [`braille`] | [`to_text`] | |
+//!
+//! Nothing is kept between two calls, and any thread may call. A call takes some 20 kilobytes of the stack; `to_cells` and `to_text` take
+//! up to 16 more.
+//!
+//! # What is proved, and what is not
+//!
+//! It is proved of the library, for all inputs, that `transcribe`, `read` and `step` answer and write as the rules say, and of the rules
+//! that what was transcribed is read back as the normalised print. This crate is not proved: it declares the library's three functions,
+//! lends them slices, and builds the rest on them. It is run on the vectors of the repository.
+//!
+//! # Panics
+//!
+//! None, whatever the input. (Where the library shows a number that it is proved never to show, the binding panics: then another archive is
+//! linked.)
+//!
+//! # Linking
+//!
+//! `rt staticlib desk`, in the top folder of the repository, writes `target/staticlib/libdesk.a`, and this crate links it: also where
+//! another workspace names the crate by its path. If the archive is elsewhere, the environment variable `OMDURGASH_LIB_DIR` names the
+//! folder that holds it, by its whole path. It links into x86-64 programs only.
+#![deny(unsafe_code)]
 
+// A new function of the library is declared in `calls` and in `include/omdurgash.h`; `refusal` tells what a new refusal changes.
+mod calls;
+mod refusal;
+mod signs;
+mod strings;
+
+pub use calls::{read, step, transcribe, Step};
 pub use refusal::Refusal;
+pub use signs::{signs, Sign, Signs};
+pub use strings::{braille, to_cells, to_text};
 
 /// Room for so many cells is never too little: no print that is accepted has more. A row of more cells is refused.
 pub const LONGEST_ROW: usize = 12_288;
 
 /// Room for so many code points is never too little: no row that is accepted has a longer text. Print whose text is longer is refused.
 pub const LONGEST_TEXT: usize = 4_096;
-
-/// What a step over a row gives: the code points of the sign that starts at a place, and the place after it.
-///
-/// A sign is the cells of one code point, with any 46-46, 46, 3456 or separating 5 before them. A code point without a cell goes with the sign
-/// after it: the full stop of an ordinal with its º or ª, U+2044 with the first digit of the denominator.
-#[derive(Clone, Copy, Debug, PartialEq, Eq, Hash)]
-pub struct Step {
-    points: [u32; 2],
-    count: usize,
-    next: usize,
-}
-
-impl Step {
-    /// The code points of the sign, one or two; none where no sign starts at the place.
-    pub fn points(&self) -> &[u32] {
-        &self.points[..self.count]
-    }
-
-    /// The place after the sign; the same place where no sign starts there.
-    pub fn next(&self) -> usize {
-        self.next
-    }
-}
-
-/// The library's answer: number 0 and the count of what was written, or a refusal's two numbers.
-#[repr(C)]
-struct Shown {
-    number: usize,
-    second: usize,
-}
-
-/// The library's answer to a step: number 0, the count of code points, these, and the place after the sign; or a refusal's two numbers, no code
-/// point, and the place.
-#[repr(C)]
-struct Sign {
-    number: usize,
-    second: usize,
-    first: u32,
-    then: u32,
-    next: usize,
-}
-
-extern "C" {
-    fn desk_transcribe(print: *const u32, print_len: usize, row: *mut u8, row_len: usize) -> Shown;
-    fn desk_read(row: *const u8, row_len: usize, text: *mut u32, text_len: usize) -> Shown;
-    fn desk_step(row: *const u8, row_len: usize, place: usize) -> Sign;
-}
-
-/// Transcribes one paragraph: writes the cells of `print` into `row`, from its first element on, and gives their count.
-///
-/// Any numbers may stand in `print`, and `row` may have any length. A cell is a byte of 0 to 63: dot 1 counts 1, dot 2 counts 2, dot 3
-/// counts 4, dot 4 counts 8, dot 5 counts 16, dot 6 counts 32. The elements after the count are as they were.
-///
-/// # Errors
-///
-/// The refusal that the rules give: `TooLong`; then that with the least place; then `NeedsRoom`. Every element of `row` is then as it was.
-pub fn transcribe(print: &[u32], row: &mut [u8]) -> Result<usize, Refusal> {
-    // SAFETY: the library takes each slice as pointer and length in elements, and asks only that the memory is there, aligned, not null and
-    // lent as here: to be read for `print`, and to nobody else for `row`. Slices are so, empty ones included.
-    let shown = unsafe { desk_transcribe(print.as_ptr(), print.len(), row.as_mut_ptr(), row.len()) };
-    shown.answer()
-}
-
-/// Reads one row: writes the only text that has it into `text`, from its first element on, and gives the count of code points.
-///
-/// Any bytes may stand in `row`, and `text` may have any length. The text is normalised print: with `«` and `»` for `“` and `”`, `2.ª` for `2ª`,
-/// three full stops for U+2026. The elements after the count are as they were.
-///
-/// ```
-/// use omdurgash::{read, Refusal, LONGEST_TEXT};
-///
-/// let mut text = [0; LONGEST_TEXT];
-/// assert_eq!(read(&[60, 6, 1], &mut text), Ok(3)); // 3456-23-1
-/// assert_eq!(text[..3], ['2', '.', 'ª'].map(u32::from));
-///
-/// assert_eq!(read(&[60, 6, 1], &mut text[..2]), Err(Refusal::NeedsRoom { room: 3 }));
-/// assert_eq!(read(&[36, 36, 36, 64], &mut text), Err(Refusal::NotACell { place: 3 }));
-/// ```
-///
-/// # Errors
-///
-/// The first of these that holds: `TooLong` for the row, `NotACell`, `NoText`, `TooLong` for its text, `NeedsRoom`. Every element of `text` is then
-/// as it was.
-pub fn read(row: &[u8], text: &mut [u32]) -> Result<usize, Refusal> {
-    // SAFETY: as for `transcribe`: to be read for `row`, and to nobody else for `text`.
-    let shown = unsafe { desk_read(row.as_ptr(), row.len(), text.as_mut_ptr(), text.len()) };
-    shown.answer()
-}
-
-/// Steps over one sign: gives the code points of the sign of `row` that starts at `place`, and the place after it.
-///
-/// Any bytes may stand in `row`, and `place` may be any number. At or past the row's end, and within a sign, no sign starts: there is then no code
-/// point, and the same place is given. The answer follows from the row and the place alone. From 0 on, the steps go over every sign of the row once,
-/// and their code points, one after the other, are its text. Each step reads the whole row.
-///
-/// ```
-/// use omdurgash::step;
-///
-/// // 3456-25-145 is 3⁄4, in two signs; U+2044 goes with the 4.
-/// let row = [60, 18, 25];
-/// let sign = step(&row, 2)?;
-/// assert_eq!((sign.points(), sign.next()), (&['\u{2044}', '4'].map(u32::from)[..], 3));
-///
-/// // No sign starts at the 25, which is the 3 with the 3456 before it.
-/// let sign = step(&row, 1)?;
-/// assert_eq!((sign.points(), sign.next()), (&[][..], 1));
-/// # Ok::<(), omdurgash::Refusal>(())
-/// ```
-///
-/// # Errors
-///
-/// A row is refused as [`read()`] refuses it where there is room enough, whatever the place is.
-pub fn step(row: &[u8], place: usize) -> Result<Step, Refusal> {
-    // SAFETY: as for `transcribe`: to be read for `row`.
-    let sign = unsafe { desk_step(row.as_ptr(), row.len(), place) };
-    let count = Shown { number: sign.number, second: sign.second }.answer()?;
-    Ok(Step { points: [sign.first, sign.then], count, next: sign.next })
-}
-
-impl Shown {
-    fn answer(self) -> Result<usize, Refusal> {
-        match self.number {
-            0 => Ok(self.second),
-            number => Err(Refusal::of(number, self.second)),
-        }
-    }
-}
