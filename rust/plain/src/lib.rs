@@ -13,7 +13,6 @@ mod normal;
 mod print;
 mod reader;
 mod refusal;
-mod rows;
 mod step;
 mod transcriber;
 
@@ -23,6 +22,7 @@ pub use step::{step, Step};
 use normal::normalised_len;
 use reader::{pass, Count, Latest, Lent};
 use refusal::reported;
+use transcriber::Transcriber;
 
 /// A row of more cells is refused.
 pub const LONGEST_ROW: usize = 12_288;
@@ -100,18 +100,30 @@ fn room_for(len: usize, text: &mut [u32]) -> Result<&mut [u32], Refusal> {
 /// [`Refusal::TextTooLong`] before all else; then the fault at the least place of the normalised text; then [`Refusal::NeedsRoom`]. Every element of
 /// `row` is then as it was.
 pub fn transcribe(print: &[u32], row: &mut [u8]) -> Result<usize, Refusal> {
-    let len = normalised_len(print);
-    if len > LONGEST_TEXT {
-        return Err(Refusal::TextTooLong(reported(len)));
+    // A row has at most three cells for each code point of print. To clear a short row costs a short print less.
+    match print.len() {
+        0..=85 => transcribe_within::<256>(print, row),
+        86..=682 => transcribe_within::<2_048>(print, row),
+        683..=LONGEST_TEXT => transcribe_within::<16_384>(print, row),
+        _ => Err(Refusal::TextTooLong(reported(normalised_len(print)))),
     }
-    let mut count = rows::Count::default();
-    let text_len = transcriber::pass(print, &mut count)?;
-    debug_assert_eq!(text_len, len, "the normalised text");
-    let cells = count.len;
-    let row = row.get_mut(..cells).ok_or(Refusal::NeedsRoom(cells))?;
-    let written = transcriber::pass(print, &mut rows::Lent { row, len: 0 });
-    debug_assert!(written.is_ok(), "the passes differ");
-    Ok(cells)
+}
+
+/// `N` is a power of two: three times the print's length at least.
+fn transcribe_within<const N: usize>(print: &[u32], row: &mut [u8]) -> Result<usize, Refusal> {
+    let own = &mut [0; N];
+    let mut transcriber = Transcriber::new(print, own);
+    let fault = transcriber.signs().err();
+    let text_len = if fault.is_some() { normalised_len(print) } else { transcriber.place() };
+    if text_len > LONGEST_TEXT {
+        return Err(Refusal::TextTooLong(text_len));
+    }
+    if let Some(fault) = fault {
+        return Err(fault);
+    }
+    let own = transcriber.row();
+    row.get_mut(..own.len()).ok_or(Refusal::NeedsRoom(own.len()))?.copy_from_slice(own);
+    Ok(own.len())
 }
 
 #[cfg(test)]

@@ -1,26 +1,14 @@
-//! The rules of transcribing, once for whatever becomes of the row: it is counted, kept, or written.
+//! The rules of transcribing. Print is normalised on the way: every code point is taken for what it becomes, and those that are added are counted.
 //!
-//! Print is normalised on the way: `added` is what a place in the normalised text is ahead of its place in print.
+//! The row is one of our own, so cells may be written before it is known that they stay: of capitals and of digits, how they are written is known only
+//! behind the last.
 use crate::cells::{D1, D135, D2, D3, D3456, D36, D46, D5};
 use crate::normal::{is_digit, is_ordinal_mark, STOPS_OF_ELLIPSIS};
 use crate::print::*;
-use crate::rows::{Sink, AT_A_TIME};
 use crate::Refusal;
 
-/// One pass over print: its row comes to the sink. Gives how many code points the normalised text has.
-///
-/// # Errors
-///
-/// The fault at the least place.
-#[inline(always)]
-pub fn pass<S: Sink>(print: &[u32], sink: &mut S) -> Result<usize, Refusal> {
-    let mut transcriber = Transcriber { print, at: 0, added: 0, open: 0, sink };
-    transcriber.signs()?;
-    Ok(transcriber.place())
-}
-
-/// Print, and the sink of its row.
-struct Transcriber<'a, S> {
+/// A pass over print, which writes its row. The row has room for `N` cells, a power of two and three for each code point.
+pub struct Transcriber<'a, const N: usize> {
     print: &'a [u32],
     /// What stands before was transcribed.
     at: usize,
@@ -28,57 +16,83 @@ struct Transcriber<'a, S> {
     added: usize,
     /// The pair kinds that are open, a bit for each.
     open: u32,
-    sink: &'a mut S,
+    row: &'a mut [u8; N],
+    /// The row has so many cells.
+    len: usize,
 }
 
-impl<S: Sink> Transcriber<'_, S> {
+impl<'a, const N: usize> Transcriber<'a, N> {
+    /// At the start of print.
+    #[inline(always)]
+    pub fn new(print: &'a [u32], row: &'a mut [u8; N]) -> Self {
+        Transcriber { print, at: 0, added: 0, open: 0, row, len: 0 }
+    }
+
+    /// The cells so far.
+    #[inline(always)]
+    pub fn row(&self) -> &[u8] {
+        &self.row[..self.len]
+    }
+
+    /// The place in the normalised text; at the end of print, its length.
+    #[inline(always)]
+    pub fn place(&self) -> usize {
+        self.at + self.added
+    }
+
     /// The code point so far ahead; `END` past the end.
     #[inline(always)]
     fn ahead(&self, by: usize) -> u32 {
         self.print.get(self.at + by).map_or(END, |&point| point)
     }
 
-    /// The place in the normalised text.
+    /// A cell that stands before those of a code point.
     #[inline(always)]
-    fn place(&self) -> usize {
-        self.at + self.added
+    fn before(&mut self, cell: usize) {
+        self.row[self.len % N] = cell as u8;
+        self.len += 1;
     }
 
-    /// A code point's cells.
+    /// The cells of the next code point.
     #[inline(always)]
-    fn put(&mut self, cells: &[usize]) {
-        cells.iter().for_each(|&cell| self.sink.put(cell as u8));
+    fn put<const CELLS: usize>(&mut self, cells: [usize; CELLS]) {
+        cells.into_iter().for_each(|cell| self.before(cell));
         self.at += 1;
     }
 
-    /// A code point's cells, from the list.
+    /// The cells of the next code point, from the list.
     #[inline(always)]
     fn put_sign(&mut self, Cells { cells, count }: Cells) {
-        cells.iter().take(usize::from(count)).for_each(|&cell| self.sink.put(cell));
+        for (i, cell) in cells.into_iter().enumerate() {
+            self.row[(self.len + i) % N] = cell;
+        }
+        self.len += usize::from(count);
         self.at += 1;
     }
 
     /// The code points that a table has, up to the first that it has not.
     #[inline(always)]
     fn run(&mut self, table: &Table) {
-        while let Some(points) = self.print[self.at..].first_chunk::<AT_A_TIME>() {
-            let cells = points.map(|point| at(table, point));
-            let count = cells_at_front(cells);
-            self.sink.put_first(cells, count);
-            self.at += count;
-            if count < AT_A_TIME {
-                return;
+        let mut count = 0;
+        for (&point, element) in self.print[self.at..].iter().zip(&mut self.row[self.len % N..]) {
+            let cell = at(table, point);
+            if cell == NONE {
+                break;
             }
+            *element = cell;
+            count += 1;
         }
-        while has(table, self.ahead(0)) {
-            self.sink.put(at(table, self.ahead(0)));
-            self.at += 1;
-        }
+        self.at += count;
+        self.len += count;
     }
 
     /// The whole print.
+    ///
+    /// # Errors
+    ///
+    /// The fault at the least place.
     #[inline(always)]
-    fn signs(&mut self) -> Result<(), Refusal> {
+    pub fn signs(&mut self) -> Result<(), Refusal> {
         loop {
             self.run(&ALONE);
             if self.at == self.print.len() {
@@ -91,19 +105,13 @@ impl<S: Sink> Transcriber<'_, S> {
     /// One that has more than a cell, or not the same everywhere.
     #[inline(always)]
     fn sign(&mut self) -> Result<(), Refusal> {
-        let point = self.ahead(0);
-        if has(&CAPITALS, point) {
-            self.capitals();
-            return Ok(());
-        }
-        if is_digit(point) {
-            return self.number();
-        }
-        match char::from_u32(point).unwrap_or(char::REPLACEMENT_CHARACTER) {
+        match char::from_u32(self.ahead(0)).unwrap_or(char::REPLACEMENT_CHARACTER) {
+            'A'..='Z' | 'Ñ' | 'Á' | 'É' | 'Í' | 'Ó' | 'Ú' | 'Ü' => self.capitals(),
+            '0'..='9' => self.number()?,
             '-' => self.hyphen()?,
             '—' => self.dash()?,
             '…' => {
-                self.put(&[D3; STOPS_OF_ELLIPSIS]);
+                self.put([D3; STOPS_OF_ELLIPSIS]);
                 self.added += STOPS_OF_ELLIPSIS - 1;
             }
             '¿' => self.opener(QUESTION)?,
@@ -150,7 +158,7 @@ impl<S: Sink> Transcriber<'_, S> {
         if self.ahead(1) == u32::from('-') || self.ahead(1) == u32::from('—') {
             return Err(Refusal::SharesCells(self.place() + 1));
         }
-        self.put(&[D36]);
+        self.put([D36]);
         Ok(())
     }
 
@@ -159,58 +167,77 @@ impl<S: Sink> Transcriber<'_, S> {
         if self.ahead(1) == u32::from('-') {
             return Err(Refusal::SharesCells(self.place() + 1));
         }
-        self.put(&[D36, D36]);
+        self.put([D36, D36]);
         Ok(())
     }
 
-    /// The longest stretch of capitals. It is the whole run if it has no small letter at either end.
+    /// The longest stretch of capitals. It is a whole run if no small letter stands at either end of it.
     #[inline(always)]
     fn capitals(&mut self) {
-        let first = self.at;
+        if !has(&CAPITALS, self.ahead(1)) {
+            // A single one has 46 before it, in whatever run.
+            return self.capital();
+        }
+        let (first, start) = (self.at, self.len);
+        self.before(D46);
+        self.before(D46);
+        self.run(&CAPITALS);
+        let end = self.at;
         let after_small = first > 0 && has(&SMALL, self.print[first - 1]);
-        let count = self.print[first..].iter().take_while(|&&point| has(&CAPITALS, point)).count();
-        let before_small = has(&SMALL, self.ahead(count));
-        if count >= 2 && !after_small && !before_small {
-            self.sink.put(D46 as u8);
-            self.sink.put(D46 as u8);
-            self.run(&CAPITALS);
-        } else {
-            for i in first..first + count {
-                self.put(&[D46, usize::from(at(&CAPITALS, self.print[i]))]);
+        if after_small || has(&SMALL, self.ahead(0)) {
+            (self.at, self.len) = (first, start);
+            while self.at < end {
+                self.capital();
             }
         }
+    }
+
+    /// A capital with its own 46.
+    #[inline(always)]
+    fn capital(&mut self) {
+        let cell = at(&CAPITALS, self.ahead(0));
+        self.put([D46, usize::from(cell)]);
     }
 
     /// From a digit on that belongs to nothing yet: a number, an ordinal or a fraction.
     #[inline(always)]
     fn number(&mut self) -> Result<(), Refusal> {
-        self.sink.put(D3456 as u8);
-        let digits = self.print[self.at..].iter().take_while(|&&point| is_digit(point)).count();
-        match (self.ahead(digits), self.ahead(digits + 1)) {
+        self.before(D3456);
+        let first = self.at;
+        self.run(&UPPER);
+        match (self.ahead(0), self.ahead(1)) {
+            (STOP, mark) if is_ordinal_mark(mark) => {
+                self.lower_from(first);
+                self.at += 1;
+                self.ordinal_mark()
+            }
             (mark, _) if is_ordinal_mark(mark) => {
-                self.run(&LOWER);
+                self.lower_from(first);
                 self.added += 1;
                 self.ordinal_mark()
             }
-            (STOP, mark) if is_ordinal_mark(mark) => {
-                self.run(&LOWER);
-                self.at += 1;
-                self.ordinal_mark()
-            }
             (BAR, digit) if is_digit(digit) => {
-                self.run(&LOWER);
+                self.lower_from(first);
                 self.at += 1;
                 self.denominator()
             }
-            _ => self.ordinary_number(),
+            _ => self.rest_of_number(),
         }
+    }
+
+    /// The digits from this place of print on are lower ones.
+    #[inline(always)]
+    fn lower_from(&mut self, first: usize) {
+        self.len -= self.at - first;
+        self.at = first;
+        self.run(&LOWER);
     }
 
     /// The end of an ordinal, from its º or ª on. No letter a to j stands directly after ª.
     #[inline(always)]
     fn ordinal_mark(&mut self) -> Result<(), Refusal> {
         let feminine = self.ahead(0) == u32::from('ª');
-        self.put(&[if feminine { D1 } else { D135 }]);
+        self.put([if feminine { D1 } else { D135 }]);
         if feminine && is_a_to_j(self.ahead(0)) {
             return Err(Refusal::SharesCells(self.place()));
         }
@@ -228,16 +255,18 @@ impl<S: Sink> Transcriber<'_, S> {
         Ok(())
     }
 
-    /// A number, from its first digit on. No letter a to j stands directly after a point or comma that directly follows it.
+    /// A number, from behind its first digits on. No letter a to j stands directly after a point or comma that directly follows it.
     #[inline(always)]
-    fn ordinary_number(&mut self) -> Result<(), Refusal> {
-        self.run(&UPPER);
-        while is_point(self.ahead(0)) && is_digit(self.ahead(1)) {
-            self.put(&[if self.ahead(0) == STOP { D3 } else { D2 }]);
+    fn rest_of_number(&mut self) -> Result<(), Refusal> {
+        while is_point(self.ahead(0)) {
+            if is_a_to_j(self.ahead(1)) {
+                return Err(Refusal::SharesCells(self.place() + 1));
+            }
+            if !is_digit(self.ahead(1)) {
+                return Ok(());
+            }
+            self.put([if self.ahead(0) == STOP { D3 } else { D2 }]);
             self.run(&UPPER);
-        }
-        if is_point(self.ahead(0)) && is_a_to_j(self.ahead(1)) {
-            return Err(Refusal::SharesCells(self.place() + 1));
         }
         self.after_digit();
         Ok(())
@@ -249,7 +278,7 @@ impl<S: Sink> Transcriber<'_, S> {
     fn after_digit(&mut self) {
         let point = self.ahead(0);
         if is_a_to_j(point) {
-            self.put(&[D5, usize::from(at(&SMALL, point))]);
+            self.put([D5, usize::from(at(&SMALL, point))]);
         } else if is_ordinal_mark(point) {
             self.added += 1;
         }
@@ -261,10 +290,3 @@ const STOP: u32 = '.' as u32;
 
 /// The bar of a fraction.
 const BAR: u32 = '\u{2044}' as u32;
-
-/// How many stand before the first that is none.
-#[inline(always)]
-fn cells_at_front(cells: [u8; AT_A_TIME]) -> usize {
-    const NONES: u64 = u64::from_le_bytes([NONE; AT_A_TIME]);
-    ((u64::from_le_bytes(cells) & NONES).trailing_zeros() / 8) as usize
-}
