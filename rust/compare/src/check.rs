@@ -2,7 +2,7 @@
 //!
 //! A text: at a room that is enough and at others, and its row is read back as the normalised text. A row: the same, its text is transcribed back to it,
 //! and steps are taken. The memory of each call is looked at ([`crate::memory`]).
-use crate::functions::{Function, Sign, READERS, STEPPERS, TRANSCRIBERS};
+use crate::functions::{sign_of, Function, Sign, READERS, STEPPERS, TRANSCRIBERS};
 use crate::memory::{Fault, Memory};
 use crate::show::{answered, Element};
 use crate::trials::Trials;
@@ -117,15 +117,18 @@ impl<P: Memory<u32>, C: Memory<u8>> Check<P, C> {
     }
 
     /// Steps at every place up to one past the end, and at the greatest. One sign starts where the one before it ends, and nowhere else; the signs are
-    /// the text.
+    /// the text, and those that the library's iterator gives.
     fn steps_everywhere(&mut self, row: &[u8], text: Result<&[u32], No>) -> Result<(), Difference> {
         let (mut start, mut joined) = (0, take(&mut self.other_text));
         joined.clear();
+        let mut iterated = omdurgash::signs(row).into_iter().flatten();
         for place in (0..=row.len() + 1).chain([usize::MAX]) {
             let Ok(sign) = self.step(row, text, place)? else { continue };
             let is_start = place == start && place < row.len();
             holds(is_start == (sign.count > 0), row, || format!("place {place}: {sign:X?}, and the sign before it ends at {start}"))?;
             if is_start {
+                let next = iterated.next().map(|sign| (sign.place(), sign_of(sign.points(), sign.next())));
+                holds(next == Some((place, sign)), row, || format!("place {place}: {sign:X?}, and the iterator gives {next:X?}"))?;
                 joined.extend_from_slice(&sign.points[..sign.count]);
                 start = sign.next;
             }
@@ -134,7 +137,7 @@ impl<P: Memory<u32>, C: Memory<u8>> Check<P, C> {
             format!("the steps end at {start} and give\n        {}", Element::shown(&joined))
         })?;
         self.other_text = joined;
-        Ok(())
+        holds(iterated.next().is_none(), row, || "the iterator gives more than the steps".to_string())
     }
 
     /// One step by all: of a row that is refused the same refusal, and otherwise no code point and the same place, or a sign of this row.

@@ -1,4 +1,5 @@
 //! All short texts and all short rows.
+use std::ops::Range;
 
 /// Every sequence of up to so many of the elements, from the empty one on, to `take`; up to the first that it has an error for. Gives their count.
 pub fn all_up_to<T: Copy, E>(length: usize, elements: &[T], mut take: impl FnMut(&[T]) -> Result<(), E>) -> Result<u64, E> {
@@ -18,6 +19,12 @@ pub fn all_up_to<T: Copy, E>(length: usize, elements: &[T], mut take: impl FnMut
         }
     }
     Ok(taken)
+}
+
+/// Every number from 0 on that is a code point or a surrogate, and as many above them.
+pub fn code_points() -> Range<u32> {
+    const BEHIND_UNICODE: u32 = 0x11_0000;
+    0..2 * BEHIND_UNICODE
 }
 
 /// Every cell.

@@ -40,15 +40,16 @@ fn no(refusal: omdurgash::Refusal) -> No {
 
 fn step(row: &[u8], place: usize) -> Result<Sign, No> {
     let step = omdurgash::step(row, place).map_err(no)?;
-    Ok(sign(step.points(), step.next()))
+    Ok(sign_of(step.points(), step.next()))
 }
 
 fn plain_step(row: &[u8], place: usize) -> Result<Sign, No> {
     let step = plain::step(row, place).map_err(plain::Refusal::shown)?;
-    Ok(sign(&step.points[..step.count], step.next))
+    Ok(sign_of(&step.points[..step.count], step.next))
 }
 
-fn sign(points: &[u32], next: usize) -> Sign {
+/// A sign from its code points, of which there are at most two, and the place after it.
+pub fn sign_of(points: &[u32], next: usize) -> Sign {
     let point = |at: usize| points.get(at).copied().unwrap_or(0);
     Sign { points: [point(0), point(1)], count: points.len(), next }
 }

@@ -4,7 +4,7 @@
 //! gives is read as the text; each row that is read is what its text gives. So exactly the right rows are accepted.
 use compare::check::Difference;
 use compare::classes::alphabet;
-use compare::exhaustive::{all_up_to, cells, representatives};
+use compare::exhaustive::{all_up_to, cells, code_points, representatives};
 use compare::run::{guarded, Tally};
 use compare::trials::Trials;
 use vectors::say;
@@ -27,6 +27,19 @@ fn all_texts(sort: &str, length: u32, points: &[u32]) {
         Ok(())
     });
     told(sort, count(length, points.len()), taken, &tally);
+}
+
+// Accepted: letters, digits, the signs that are no pair marks, and U+2026.
+#[test]
+fn every_code_point_alone() {
+    const ACCEPTED: u64 = 66 + 10 + 26 + 1;
+    let (check, mut tally) = (&mut guarded(), Tally::default());
+    let taken = code_points().try_fold(0, |taken, point| {
+        tally.count(check.text(&[point], &Trials::EVERY)?);
+        Ok(taken + 1)
+    });
+    told("code points, each alone", code_points().len() as u64, taken, &tally);
+    assert_eq!(tally.0[0], ACCEPTED);
 }
 
 #[test]

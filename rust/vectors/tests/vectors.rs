@@ -1,5 +1,4 @@
-//! Every vector through the library, at several rooms.
-use omdurgash::{transcribe, Refusal};
+//! Every vector through the library, and through the plain transcriber, at several rooms.
 use std::fs::read_to_string;
 use vectors::{of_repository, parse, say, Answer, Vector};
 
@@ -14,7 +13,7 @@ const MOST_ROOM: usize = 12_300;
 /// What every byte holds before a call: it is no cell.
 const UNTOUCHED: u8 = 0xA5;
 
-/// So many bytes stand before the lent row, and as many after it. The library must not touch them.
+/// So many bytes stand before the lent row, and as many after it. A transcriber must not touch them.
 const GUARD: usize = 64;
 
 /// An answer as the desk shows it: 0 and the count of cells, or a refusal's two numbers.
@@ -23,11 +22,17 @@ type Shown = (u8, usize);
 /// Paper 01's number for an answer that needs more room than lent.
 const NEEDS_ROOM: u8 = 6;
 
-fn shown(answer: Result<usize, Refusal>) -> Shown {
-    match answer {
-        Ok(count) => (0, count),
-        Err(refusal) => (refusal.number(), refusal.second()),
-    }
+/// A transcriber: the library's, or the plain one.
+type Transcriber = fn(&[u32], &mut [u8]) -> Shown;
+
+const TRANSCRIBERS: [(&str, Transcriber); 2] = [("the library", by_library), ("the plain transcriber", plainly)];
+
+fn by_library(print: &[u32], row: &mut [u8]) -> Shown {
+    omdurgash::transcribe(print, row).map_or_else(|refusal| (refusal.number(), refusal.second()), |count| (0, count))
+}
+
+fn plainly(print: &[u32], row: &mut [u8]) -> Shown {
+    plain::transcribe(print, row).map_or_else(plain::Refusal::shown, |count| (0, count))
 }
 
 /// Nothing, one short of the cells, just the cells, one over, and plenty. Print that is refused has no cells.
@@ -47,13 +52,13 @@ fn due(vector: &Vector, room: usize) -> (Shown, &[u8]) {
 }
 
 /// One call. The error tells what went wrong.
-fn trial(vector: &Vector, room: usize) -> Result<(), String> {
+fn trial(transcriber: Transcriber, vector: &Vector, room: usize) -> Result<(), String> {
     let (answer, cells) = due(vector, room);
     let mut memory = vec![UNTOUCHED; GUARD + room + GUARD];
     let mut wanted = memory.clone();
     wanted[GUARD..GUARD + cells.len()].copy_from_slice(cells);
 
-    let got = shown(transcribe(&vector.print, &mut memory[GUARD..GUARD + room]));
+    let got = transcriber(&vector.print, &mut memory[GUARD..GUARD + room]);
     if got != answer {
         return Err(format!("room {room}: the answer is {got:?} and should be {answer:?}"));
     }
@@ -79,8 +84,10 @@ fn every_vector_at_every_room() {
             Answer::No(..) => 0,
         };
         for room in rooms(cells) {
-            calls += 1;
-            wrong.extend(trial(vector, room).err().map(|what| format!("FAILED {}: {what}", vector.name)));
+            for (name, transcriber) in TRANSCRIBERS {
+                calls += 1;
+                wrong.extend(trial(transcriber, vector, room).err().map(|what| format!("FAILED {}: {name}, {what}", vector.name)));
+            }
         }
     }
     assert!(wrong.is_empty(), "\n{}\n", wrong.join("\n"));
