@@ -22,7 +22,6 @@ pub use step::{step, Step};
 use normal::normalised_len;
 use reader::{pass, Count, Latest, Lent};
 use refusal::reported;
-use transcriber::Transcriber;
 
 /// A row of more cells is refused.
 pub const LONGEST_ROW: usize = 12_288;
@@ -100,30 +99,27 @@ fn room_for(len: usize, text: &mut [u32]) -> Result<&mut [u32], Refusal> {
 /// [`Refusal::TextTooLong`] before all else; then the fault at the least place of the normalised text; then [`Refusal::NeedsRoom`]. Every element of
 /// `row` is then as it was.
 pub fn transcribe(print: &[u32], row: &mut [u8]) -> Result<usize, Refusal> {
-    // A row has at most three cells for each code point of print. To clear a short row costs a short print less.
+    // To clear a short row costs a short print less.
     match print.len() {
-        0..=85 => transcribe_within::<256>(print, row),
-        86..=682 => transcribe_within::<2_048>(print, row),
-        683..=LONGEST_TEXT => transcribe_within::<16_384>(print, row),
+        0..=80 => transcribe_within::<{ 3 * 80 }>(print, row),
+        81..=640 => transcribe_within::<{ 3 * 640 }>(print, row),
+        641..=LONGEST_TEXT => transcribe_within::<LONGEST_ROW>(print, row),
         _ => Err(Refusal::TextTooLong(reported(normalised_len(print)))),
     }
 }
 
-/// `N` is a power of two: three times the print's length at least.
+/// `N` is three for each code point at least: a row is never longer.
+#[inline(never)]
 fn transcribe_within<const N: usize>(print: &[u32], row: &mut [u8]) -> Result<usize, Refusal> {
     let own = &mut [0; N];
-    let mut transcriber = Transcriber::new(print, own);
-    let fault = transcriber.signs().err();
-    let text_len = if fault.is_some() { normalised_len(print) } else { transcriber.place() };
+    let passed = transcriber::pass(print, own);
+    let text_len = passed.map_or_else(|_| normalised_len(print), |passed| passed.text_len);
     if text_len > LONGEST_TEXT {
         return Err(Refusal::TextTooLong(text_len));
     }
-    if let Some(fault) = fault {
-        return Err(fault);
-    }
-    let own = transcriber.row();
-    row.get_mut(..own.len()).ok_or(Refusal::NeedsRoom(own.len()))?.copy_from_slice(own);
-    Ok(own.len())
+    let row_len = passed?.row_len;
+    row.get_mut(..row_len).ok_or(Refusal::NeedsRoom(row_len))?.copy_from_slice(&own[..row_len]);
+    Ok(row_len)
 }
 
 #[cfg(test)]
