@@ -1,5 +1,5 @@
-//! Normalised print (paper 01, "Normalised print"). No normalised text is ever made: the transcriber takes each code point for what it becomes, and
-//! counts those that are added.
+//! Normalised print (paper 01, "Normalised print"). No normalised text is ever made: the transcriber takes each code point for what it
+//! becomes, and counts those that are added.
 
 /// U+2026.
 pub const ELLIPSIS: char = '…';
@@ -41,8 +41,8 @@ pub fn normalised_len(print: &[u32]) -> usize {
     print.len() + ellipses * usize::from(STOPS_OF_ELLIPSIS - 1) + ordinals
 }
 
-/// At how many places two slices have what is asked for. It is counted in blocks, and in 32 bits within one: so the compiler takes several places at
-/// a time.
+/// At how many places two slices have what is asked for. It is counted in blocks, and in 32 bits within one: so the compiler takes several
+/// places at a time.
 #[inline(always)]
 fn count(left: &[u32], right: &[u32], asked: impl Fn(u32, u32) -> bool) -> usize {
     const BLOCK: usize = 4_096;

@@ -1,7 +1,7 @@
 //! The rules of transcribing, in one pass over print. It is normalised on the way.
 //!
-//! The row is not yet the lent one, so a cell may be written before it is known to stay: how capitals are written, and digits, shows only behind the
-//! last of them.
+//! The row is not yet the lent one, so a cell may be written before it is known to stay: how capitals are written, and digits, shows only
+//! behind the last of them.
 //!
 //! Every function is inlined, so that a pass has its places in registers.
 use crate::cells::{D1, D135, D2, D3, D3456, D46, D5};
@@ -223,8 +223,8 @@ impl Transcriber<'_> {
         Ok(())
     }
 
-    /// Directly after the last digit of a number or of a denominator: a letter a to j has a 5 before it. An º or ª there is outside the forms; but
-    /// normalising puts a full stop before it, which its place counts.
+    /// Directly after the last digit of a number or of a denominator: a letter a to j has a 5 before it. An º or ª there is outside the forms;
+    /// but normalising puts a full stop before it, which its place counts.
     #[inline(always)]
     fn after_digit(&mut self) {
         let point = self.ahead(0);

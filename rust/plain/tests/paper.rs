@@ -1,5 +1,5 @@
-//! What paper 01 says of single lines: its sixteen lines, its list "Either side of each line", its sentences about signs, and its faults of a hurried
-//! hand.
+//! What paper 01 says of single lines: its sixteen lines, its list "Either side of each line", its sentences about signs and refusals, and
+//! its faults of a hurried hand.
 mod common;
 
 use common::*;
@@ -37,6 +37,32 @@ fn the_proved_set() {
 }
 
 #[test]
+fn the_proved_set_read_back() {
+    let rows = [
+        ("", ""),
+        ("46-1", "A"),
+        ("46-46-135-1345-14-15", "ONCE"),
+        ("46-1-46-12-14", "ABc"),
+        ("3456-125-5-12", "8b"),
+        ("3456-125-46-12", "8B"),
+        ("3456-1-3-1245-12-245", "1.720"),
+        ("3456-23-1", "2.ª"),
+        ("3456-25-145", "3⁄4"),
+        ("26-46-234-34-26", "¿Sí?"),
+        ("3456-1-245-0-456-356", "10 %"),
+    ];
+    for (dots, text) in rows {
+        let (row, text) = (cells(dots), points(text));
+        assert_eq!(joined_steps(&row), text, "{dots}");
+        assert_eq!(text_within(64, &row).as_ref(), Ok(&text), "{dots}");
+        assert_eq!(text_within(text.len(), &row).as_ref(), Ok(&text), "{dots}");
+        if let Some(less) = text.len().checked_sub(1) {
+            assert_eq!(text_within(less, &row), Err((6, text.len())), "{dots}");
+        }
+    }
+}
+
+#[test]
 fn either_side_of_each_length() {
     let many = |count, print: char| vec![u32::from(print); count];
     assert_eq!(row_of(&many(4_096, '‰')), Ok(cells("456-356-356").repeat(4_096)));
@@ -54,6 +80,25 @@ fn either_side_of_each_length() {
     assert_eq!(step_at(0, &dot_1(4_097)), Err((1, 4_097)));
     assert_eq!(text_within(4_096, &vec![0; 12_289]), Err((1, 12_289)));
     assert_eq!(step_at(0, &vec![0; 12_289]), Err((1, 12_289)));
+}
+
+/// The transcriber's own row has one of three lengths, by that of print.
+#[test]
+fn either_side_of_each_own_row() {
+    for len in [79, 80, 81, 639, 640, 641, 4_095, 4_096] {
+        for (print, dots) in [("‰", "456-356-356"), ("a", "1")] {
+            assert_eq!(row_of(&points(&print.repeat(len))), Ok(cells(dots).repeat(len)), "{print} {len}");
+        }
+        let (print, dots) = ("‰".repeat(len - 2), "456-356-356-".repeat(len - 2));
+        for (end, cells) in [("AB", "46-46-1-12"), ("1b", "3456-1-5-12"), ("Ab", "46-1-12"), ("2ª", "3456-23-1"), ("¿?", "26-26")] {
+            let longer = usize::from(end == "2ª");
+            if len + longer <= 4_096 {
+                accepted(&format!("{print}{end}"), &format!("{dots}{cells}"));
+            } else {
+                refused(&format!("{print}{end}"), (1, len + longer));
+            }
+        }
+    }
 }
 
 #[test]

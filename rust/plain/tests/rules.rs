@@ -1,12 +1,12 @@
-//! The refusals of print once more, sentence by sentence as paper 01 has them and place by place; and every accepted text, there and back: by both
-//! readers, and by steps.
+//! The refusals of print once more, place by place in the sentences of paper 01; and accepted texts, there and back: by both readers, and by
+//! steps.
 mod common;
 
 use common::*;
 use std::collections::HashMap;
 
-/// What matters to the rules: a small letter that has a digit's cell and one that has not, capitals, digits, points, the marks of the forms, dashes, a
-/// pair, a blank.
+/// What matters to the rules: a small letter that has a digit's cell and one that has not, capitals, digits, points, the marks of the forms,
+/// dashes, a pair, a blank.
 const SHORT_ALPHABET: &str = "akAB12.,ºª⁄-—¿? ";
 
 /// Those, and some of everything else; `@` has no sign.
@@ -130,6 +130,7 @@ fn every_text_of_up_to_four() {
     assert!(text_of_row.len() > 10_000);
 }
 
+/// Short texts; and those that are accepted, many with blanks between as a long one.
 #[test]
 fn texts_at_random() {
     let alphabets: [Vec<char>; 2] = [SHORT_ALPHABET.chars().collect(), LONG_ALPHABET.chars().collect()];
@@ -139,10 +140,19 @@ fn texts_at_random() {
         state = state.wrapping_mul(6_364_136_223_846_793_005).wrapping_add(1_442_695_040_888_963_407);
         (state >> 33) as usize % count
     };
+    let mut long = vec![];
     for round in 0..100_000 {
         let alphabet = &alphabets[round % 2];
         let print: Vec<char> = (0..below(13)).map(|_| alphabet[below(alphabet.len())]).collect();
         check(&print, &mut text_of_row);
+        if refusal(&normalised(&print)).is_none() {
+            long.extend(print.into_iter().chain([' ']));
+        }
     }
     assert!(text_of_row.len() > 10_000);
+    let mut rest = &long[..20_000];
+    while let Some(cut) = rest[..rest.len().min(30 + below(1_000))].iter().rposition(|&point| point == ' ') {
+        check(&rest[..cut], &mut text_of_row);
+        rest = &rest[cut + 1..];
+    }
 }
