@@ -40,7 +40,7 @@ struct Transcriber<'a> {
     /// The bits of the pair kinds that are open.
     open: u8,
     row: &'a mut [u8],
-    /// So many cells were written. Never more than three for each code point of print before `at`.
+    /// So many cells were written: never more than three for each code point up to the one at `at`.
     len: usize,
 }
 
@@ -146,7 +146,8 @@ impl Transcriber<'_> {
     fn capitals_up_to(&mut self, end: usize) {
         for &point in &self.print[self.at..end] {
             self.put(D46);
-            self.put(usize::from(CAPITALS[point as u8 as usize]));
+            // They are all below 256.
+            self.put(usize::from(CAPITALS[usize::from(point as u8)]));
         }
         self.at = end;
     }
@@ -223,8 +224,8 @@ impl Transcriber<'_> {
         Ok(())
     }
 
-    /// Directly after the last digit of a number or of a denominator: a letter a to j has a 5 before it. An º or ª there is outside the forms;
-    /// but normalising puts a full stop before it, which its place counts.
+    /// Directly after the last digit of a number or of a denominator: a letter a to j has a 5 before it. An º or ª there is outside the
+    /// forms; but normalising puts a full stop before it, which its place counts.
     #[inline(always)]
     fn after_digit(&mut self) {
         let point = self.ahead(0);

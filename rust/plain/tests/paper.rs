@@ -291,6 +291,8 @@ fn refusals_of_print_in_their_order() {
     assert_eq!(row_of(&long("@", 4_092, "…")), Err((2, 0)));
     assert_eq!(row_of(&long("?", 4_094, "1º")), Err((1, 4_098)));
     assert_eq!(row_of(&long("?", 4_092, "1º")), Err((3, 0)));
+    assert_eq!(row_of(&long("@", 4_094, "ª")), Err((2, 0)));
+    assert_eq!(row_of(&long("", 4_095, "1º…aª")), Err((1, 4_103)));
     assert_eq!(row_within(0, &long("", 4_097, "")), Err((1, 4_097)));
     // Then the least place.
     refused("@?", (2, 0));

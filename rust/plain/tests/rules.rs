@@ -1,12 +1,12 @@
-//! The refusals of print once more, place by place in the sentences of paper 01; and accepted texts, there and back: by both readers, and by
-//! steps.
+//! The refusals of print once more, place by place in the sentences of paper 01; and accepted texts, there and back: by both readers, and
+//! by steps.
 mod common;
 
 use common::*;
 use std::collections::HashMap;
 
-/// What matters to the rules: a small letter that has a digit's cell and one that has not, capitals, digits, points, the marks of the forms,
-/// dashes, a pair, a blank.
+/// What matters to the rules: a small letter that has a digit's cell and one that has not, capitals, digits, points, the marks of the
+/// forms, dashes, a pair, a blank.
 const SHORT_ALPHABET: &str = "akAB12.,ºª⁄-—¿? ";
 
 /// Those, and some of everything else; `@` has no sign.
