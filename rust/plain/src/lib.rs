@@ -1,11 +1,12 @@
-//! Spanish print to rows of six-dot braille cells, and back, in plain Rust: the rival and the cross-check of the exported library, and nothing that it
-//! is built on. It is written from paper 01 alone, and for speed.
+//! Spanish print to rows of six-dot braille cells, and back, in plain Rust: the rival and the cross-check of the exported library, and
+//! nothing that it is built on. It is written from paper 01 alone, and for speed.
 //!
-//! [`transcribe`] goes from print to a row (`transcriber`). There are two readers by the same rules (`reader`): [`read`] makes one pass over the row
-//! into a text of its own and copies it; [`read_lent`] makes two, and copies nothing, as the library does. [`step`] gives one sign of a row.
+//! [`transcribe`] makes one pass over print (`transcriber`) into a row of its own, and copies that. There are two readers by the same rules
+//! (`reader`): [`read`] makes one pass over the row into a text of its own and copies it; [`read_lent`] makes two, and copies nothing, as
+//! the library does. [`step`] reads the row as they do and gives one sign of it.
 //!
-//! A new sign of one cell is an entry of `PUNCTUATION`; of two cells, an entry of the table for its first cell, and of `TWO_CELLS`; a new pair kind, an
-//! entry of `OPENERS` and of `CLOSERS`, a `Pair`, and an arm for each of its marks.
+//! A new sign of one cell is an entry of `PUNCTUATION`; of two cells, an entry of the table for its first cell, and of `SIGNS`; a new pair
+//! kind, an entry of `OPENERS` and of `CLOSERS`, and of `PAIRS`. If its code point is in no table of signs, it is one of `ELSEWHERE` too.
 #![forbid(unsafe_code)]
 
 mod cells;
@@ -22,21 +23,54 @@ pub use step::{step, Step};
 use normal::normalised_len;
 use reader::{pass, Count, Latest, Lent};
 use refusal::reported;
-use transcriber::Transcriber;
 
 /// A row of more cells is refused.
 pub const LONGEST_ROW: usize = 12_288;
 
-/// A row with a longer text is refused.
+/// A longer text is refused, and a row that has one.
 pub const LONGEST_TEXT: usize = 4_096;
 
-/// Writes the text of `row` into `text`, from its first element on, and gives the count of code points. The elements after them are as they were.
+/// Writes the row of `print` into `row`, from its first element on, and gives the count of cells. The elements after them are as they were.
+///
+/// `print` may be any sequence of numbers. It is normalised on the way; places are those of the normalised text.
+///
+/// # Errors
+///
+/// [`Refusal::TextTooLong`] before all else; then the fault at the least place, one of [`Refusal`]'s last four; then
+/// [`Refusal::NeedsRoom`]. Every element of `row` is then as it was.
+pub fn transcribe(print: &[u32], row: &mut [u8]) -> Result<usize, Refusal> {
+    // To clear a short row costs a short print less.
+    match print.len() {
+        0..=80 => transcribe_within::<{ 3 * 80 }>(print, row),
+        81..=640 => transcribe_within::<{ 3 * 640 }>(print, row),
+        641..=LONGEST_TEXT => transcribe_within::<LONGEST_ROW>(print, row),
+        // Normalising takes no code point away.
+        _ => Err(Refusal::TextTooLong(reported(normalised_len(print)))),
+    }
+}
+
+/// `N` is three for each code point of print at least, and no row is longer. Not inlined, so that a short row takes a short stack.
+#[inline(never)]
+fn transcribe_within<const N: usize>(print: &[u32], row: &mut [u8]) -> Result<usize, Refusal> {
+    let own = &mut [0; N];
+    let passed = transcriber::pass(print, own);
+    let text_len = passed.map_or_else(|_| normalised_len(print), |passed| passed.text_len);
+    if text_len > LONGEST_TEXT {
+        return Err(Refusal::TextTooLong(text_len));
+    }
+    let row_len = passed?.row_len;
+    row.get_mut(..row_len).ok_or(Refusal::NeedsRoom(row_len))?.copy_from_slice(&own[..row_len]);
+    Ok(row_len)
+}
+
+/// Writes the text of `row` into `text`, from its first element on, and gives the count of code points. The elements after them are as they
+/// were.
 ///
 /// One pass over the row, into a text of its own; if the row is accepted, that text is copied.
 ///
 /// # Errors
 ///
-/// The first refusal in the order of [`Refusal`]'s variants. Every element of `text` is then as it was.
+/// The first refusal in the order of [`Refusal`]'s first five. Every element of `text` is then as it was.
 pub fn read(row: &[u8], text: &mut [u32]) -> Result<usize, Refusal> {
     // A text is never longer than its row. To clear a short text costs a short row less.
     match row.len() {
@@ -46,8 +80,8 @@ pub fn read(row: &[u8], text: &mut [u32]) -> Result<usize, Refusal> {
     }
 }
 
-/// As [`read`], under the library's rule: nothing is copied, and nothing is written before the row is known to have a text that fits. One pass over
-/// the row counts, and the next one writes.
+/// As [`read`], under the library's rule: nothing is copied, and nothing is written before the row is known to have a text that fits. One
+/// pass over the row counts, and the next one writes.
 ///
 /// # Errors
 ///
@@ -91,93 +125,4 @@ fn room_for(len: usize, text: &mut [u32]) -> Result<&mut [u32], Refusal> {
         return Err(Refusal::TextTooLong(len));
     }
     text.get_mut(..len).ok_or(Refusal::NeedsRoom(len))
-}
-
-/// Writes the row of `print` into `row`, from its first element on, and gives the count of cells. The elements after them are as they were.
-///
-/// # Errors
-///
-/// [`Refusal::TextTooLong`] before all else; then the fault at the least place of the normalised text; then [`Refusal::NeedsRoom`]. Every element of
-/// `row` is then as it was.
-pub fn transcribe(print: &[u32], row: &mut [u8]) -> Result<usize, Refusal> {
-    // A row has at most three cells for each code point of print. To clear a short row costs a short print less.
-    match print.len() {
-        0..=85 => transcribe_within::<256>(print, row),
-        86..=682 => transcribe_within::<2_048>(print, row),
-        683..=LONGEST_TEXT => transcribe_within::<16_384>(print, row),
-        _ => Err(Refusal::TextTooLong(reported(normalised_len(print)))),
-    }
-}
-
-/// `N` is a power of two: three times the print's length at least.
-fn transcribe_within<const N: usize>(print: &[u32], row: &mut [u8]) -> Result<usize, Refusal> {
-    let own = &mut [0; N];
-    let mut transcriber = Transcriber::new(print, own);
-    let fault = transcriber.signs().err();
-    let text_len = if fault.is_some() { normalised_len(print) } else { transcriber.place() };
-    if text_len > LONGEST_TEXT {
-        return Err(Refusal::TextTooLong(text_len));
-    }
-    if let Some(fault) = fault {
-        return Err(fault);
-    }
-    let own = transcriber.row();
-    row.get_mut(..own.len()).ok_or(Refusal::NeedsRoom(own.len()))?.copy_from_slice(own);
-    Ok(own.len())
-}
-
-#[cfg(test)]
-mod tests {
-    use super::*;
-    use cells::cell;
-
-    /// What every element holds before a call: it is no code point.
-    const UNTOUCHED: u32 = u32::MAX;
-
-    /// What both readers make of a row in dots at a room: the text, or the two numbers of the refusal. Every other element is as it was.
-    fn text_within(room: usize, row: &str) -> Result<String, (u8, usize)> {
-        let row: Vec<u8> = row.split('-').filter(|dots| !dots.is_empty()).map(|dots| cell(dots) as u8).collect();
-        let by = |reader: fn(&[u8], &mut [u32]) -> Result<usize, Refusal>| {
-            let mut memory = [UNTOUCHED; 72];
-            let answer = reader(&row, &mut memory[4..4 + room]).map_err(Refusal::shown);
-            let (before, text) = memory.split_at(4);
-            let (text, behind) = text.split_at(answer.unwrap_or(0));
-            assert!(before.iter().chain(behind).all(|&element| element == UNTOUCHED), "{row:?}");
-            answer.map(|_| text.iter().map(|&point| char::from_u32(point).expect("a sign is a character")).collect())
-        };
-        let text = by(read);
-        assert_eq!(by(read_lent), text, "{row:?}");
-        text
-    }
-
-    fn text_of(row: &str) -> Result<String, (u8, usize)> {
-        text_within(64, row)
-    }
-
-    #[test]
-    fn proved_set() {
-        let rows = [
-            ("", ""),
-            ("46-1", "A"),
-            ("46-46-135-1345-14-15", "ONCE"),
-            ("46-1-46-12-14", "ABc"),
-            ("3456-125-5-12", "8b"),
-            ("3456-125-46-12", "8B"),
-            ("3456-1-3-1245-12-245", "1.720"),
-            ("3456-23-1", "2.ª"),
-            ("3456-25-145", "3\u{2044}4"),
-            ("26-46-234-34-26", "¿Sí?"),
-            ("3456-1-245-0-456-356", "10 %"),
-        ];
-        for (row, text) in rows {
-            assert_eq!(text_of(row).as_deref(), Ok(text), "{row}");
-        }
-        assert_eq!(text_of("46-1-46-12"), Err((8, 0)));
-    }
-    #[test]
-    fn room_one_short() {
-        assert_eq!(text_within(3, "3456-23-1").as_deref(), Ok("2.ª"));
-        assert_eq!(text_within(2, "3456-23-1"), Err((6, 3)));
-        assert_eq!(text_within(0, "46-1-46-12"), Err((8, 0)));
-    }
 }

@@ -3,8 +3,8 @@
 /// A greater length is reported as this.
 const LONGEST_REPORTED: usize = 4_294_967_295;
 
-/// Why a row is refused, or print. The first five are a row's, in the order in which they are looked for. Print is refused for the length of its text
-/// before all else; then for the least place with a fault, and no place has two; then for the room.
+/// Why a row is refused, or print. The first five are a row's, in the order in which they are looked for. Print is refused for the length
+/// of its text before all else; then for the fault at the least place, one of the last four, and no place has two; then for the room.
 #[derive(Clone, Copy, Debug, PartialEq, Eq)]
 pub enum Refusal {
     /// The row has more than 12,288 cells: so many.
@@ -19,12 +19,15 @@ pub enum Refusal {
     NeedsRoom(usize),
     /// The code point at this place of the normalised print has no sign.
     NoSign(usize),
-    /// The pair mark at this place of the normalised print is an opener where its kind is open, or a closer where it is closed. At the place behind
-    /// the last: a kind is open at the end.
+    /// The pair mark at this place of the normalised print is an opener where its kind is open, or a closer where it is closed. If the
+    /// place is the text's length, a kind is open at the end.
     PairBroken(usize),
-    /// The º, ª or U+2044 at this place of the normalised print is in no ordinal and in no fraction.
+    /// The º, ª or U+2044 at this place of the normalised print is outside ordinals and fractions, as it is after a number with a point or
+    /// comma inside.
     OutsideForm(usize),
-    /// From the code point at this place on, the normalised print would have the cells of other print.
+    /// With the code point at this place, the normalised print would share its cells: a small letter a to j directly after a point or comma
+    /// that directly follows a digit of an ordinary number; the later of a hyphen and a hyphen or U+2014; the 1 of a denominator that is 1;
+    /// a small letter a to j directly after ª.
     SharesCells(usize),
 }
 
@@ -45,6 +48,19 @@ impl Refusal {
 }
 
 /// A length as it is reported.
+#[inline(always)]
 pub fn reported(len: usize) -> usize {
     len.min(LONGEST_REPORTED)
+}
+
+#[cfg(test)]
+mod tests {
+    use super::*;
+
+    #[test]
+    fn greatest_length() {
+        assert_eq!(reported(4_294_967_294), 4_294_967_294);
+        assert_eq!(reported(4_294_967_295), 4_294_967_295);
+        assert_eq!(reported(4_294_967_295_usize.saturating_add(1)), 4_294_967_295);
+    }
 }

@@ -13,7 +13,8 @@ pub struct Step {
     pub next: usize,
 }
 
-/// The sign of `row` that starts at `place`, and the place after it. No code point, and `place` itself, where none starts or the row has ended.
+/// The print of the sign of `row` that starts at `place`, and the place after it. No code point, and `place` itself, where none starts or
+/// the row has ended.
 ///
 /// # Errors
 ///
@@ -35,8 +36,8 @@ impl Step {
     }
 }
 
-/// Puts signs together from code points, and keeps the one that starts at a place. Every cell is in one sign, so a sign starts where the last one
-/// ends.
+/// Puts signs together from code points, and keeps the one that starts at a place. Every cell is in one sign, so a sign starts where the
+/// last one ends.
 struct Signs {
     /// The place.
     wanted: usize,

@@ -1,8 +1,10 @@
-//! What paper 01 says of single lines: its sixteen lines, its list "Either side of each line", its sentences about signs, and its faults of a hurried
-//! hand.
+//! What paper 01 says of single lines: its sixteen lines, its list "Either side of each line", its sentences about signs and refusals, and
+//! its faults of a hurried hand.
 mod common;
 
 use common::*;
+use plain::{transcribe, Refusal};
+use std::collections::HashSet;
 
 /// Print has this row.
 fn accepted(print: &str, dots: &str) {
@@ -35,6 +37,32 @@ fn the_proved_set() {
 }
 
 #[test]
+fn the_proved_set_read_back() {
+    let rows = [
+        ("", ""),
+        ("46-1", "A"),
+        ("46-46-135-1345-14-15", "ONCE"),
+        ("46-1-46-12-14", "ABc"),
+        ("3456-125-5-12", "8b"),
+        ("3456-125-46-12", "8B"),
+        ("3456-1-3-1245-12-245", "1.720"),
+        ("3456-23-1", "2.ª"),
+        ("3456-25-145", "3⁄4"),
+        ("26-46-234-34-26", "¿Sí?"),
+        ("3456-1-245-0-456-356", "10 %"),
+    ];
+    for (dots, text) in rows {
+        let (row, text) = (cells(dots), points(text));
+        assert_eq!(joined_steps(&row), text, "{dots}");
+        assert_eq!(text_within(64, &row).as_ref(), Ok(&text), "{dots}");
+        assert_eq!(text_within(text.len(), &row).as_ref(), Ok(&text), "{dots}");
+        if let Some(less) = text.len().checked_sub(1) {
+            assert_eq!(text_within(less, &row), Err((6, text.len())), "{dots}");
+        }
+    }
+}
+
+#[test]
 fn either_side_of_each_length() {
     let many = |count, print: char| vec![u32::from(print); count];
     assert_eq!(row_of(&many(4_096, '‰')), Ok(cells("456-356-356").repeat(4_096)));
@@ -52,6 +80,25 @@ fn either_side_of_each_length() {
     assert_eq!(step_at(0, &dot_1(4_097)), Err((1, 4_097)));
     assert_eq!(text_within(4_096, &vec![0; 12_289]), Err((1, 12_289)));
     assert_eq!(step_at(0, &vec![0; 12_289]), Err((1, 12_289)));
+}
+
+/// The transcriber's own row has one of three lengths, by that of print.
+#[test]
+fn either_side_of_each_own_row() {
+    for len in [79, 80, 81, 639, 640, 641, 4_095, 4_096] {
+        for (print, dots) in [("‰", "456-356-356"), ("a", "1")] {
+            assert_eq!(row_of(&points(&print.repeat(len))), Ok(cells(dots).repeat(len)), "{print} {len}");
+        }
+        let (print, dots) = ("‰".repeat(len - 2), "456-356-356-".repeat(len - 2));
+        for (end, cells) in [("AB", "46-46-1-12"), ("1b", "3456-1-5-12"), ("Ab", "46-1-12"), ("2ª", "3456-23-1"), ("¿?", "26-26")] {
+            let longer = usize::from(end == "2ª");
+            if len + longer <= 4_096 {
+                accepted(&format!("{print}{end}"), &format!("{dots}{cells}"));
+            } else {
+                refused(&format!("{print}{end}"), (1, len + longer));
+            }
+        }
+    }
 }
 
 #[test]
@@ -140,12 +187,11 @@ fn every_sign() {
 
 #[test]
 fn every_other_number_has_no_sign() {
-    let outside = points("º ª ⁄").into_iter().step_by(2);
-    let has_sign = "0123456789 .,;:(){}<>-—/\\&=%‰€$¢£¥₿†¿¡«“‘‹\u{E000}?!»”’›\u{E001}…ñáéíóúüÑÁÉÍÓÚÜ";
-    let known: Vec<u32> = points(has_sign).into_iter().chain(outside).chain(97..=122).chain(65..=90).collect();
-    let others = (0..0x11_0000 + 3).chain([0x8000_0000, 0x8000_0061, 0xFFFF_FFFE, 0xFFFF_FFFF, 0x1_0061, 0x161, 0x100_0000]);
-    for other in others.filter(|other| !known.contains(other)) {
-        assert_eq!(row_within(8, &[97, other]), Err((2, 1)), "{other:#x}");
+    let listed = "º ª ⁄ 0123456789.,;:(){}<>-—/\\&=%‰€$¢£¥₿†¿?¡!«»‘’“”‹›…\u{E000}\u{E001}ñáéíóúüÑÁÉÍÓÚÜ";
+    let listed: HashSet<u32> = points(listed).into_iter().chain(97..=122).chain(65..=90).collect();
+    let far = [0x8000_0000, 0x8000_0061, 0xFFFF_FF61, 0xFFFF_FFFE, 0xFFFF_FFFF];
+    for other in (0..0x11_0100).chain(far).filter(|other| !listed.contains(other)) {
+        assert_eq!(transcribe(&[97, other], &mut []), Err(Refusal::NoSign(1)), "{other:#x}");
     }
 }
 
@@ -245,6 +291,8 @@ fn refusals_of_print_in_their_order() {
     assert_eq!(row_of(&long("@", 4_092, "…")), Err((2, 0)));
     assert_eq!(row_of(&long("?", 4_094, "1º")), Err((1, 4_098)));
     assert_eq!(row_of(&long("?", 4_092, "1º")), Err((3, 0)));
+    assert_eq!(row_of(&long("@", 4_094, "ª")), Err((2, 0)));
+    assert_eq!(row_of(&long("", 4_095, "1º…aª")), Err((1, 4_103)));
     assert_eq!(row_within(0, &long("", 4_097, "")), Err((1, 4_097)));
     // Then the least place.
     refused("@?", (2, 0));

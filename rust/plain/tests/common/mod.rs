@@ -26,7 +26,8 @@ pub fn cells(dots: &str) -> Vec<u8> {
     dots.split('-').filter(|dots| !dots.is_empty()).map(cell).collect()
 }
 
-/// What `call` writes to the first of so many elements, all of which hold `untouched` before. Every other element, within and around, is as it was.
+/// What `call` writes to the first of so many elements, all of which hold `untouched` before. Every other element, within and around, is as
+/// it was.
 fn written<T: Copy + PartialEq>(room: usize, untouched: T, call: impl FnOnce(&mut [T]) -> Result<usize, Refusal>) -> Result<Vec<T>, Shown> {
     let mut memory = vec![untouched; AROUND + room + AROUND];
     let answer = call(&mut memory[AROUND..AROUND + room]).map_err(Refusal::shown);
