@@ -1,12 +1,14 @@
-//! One case: the library and the plain one are called with the same, and must answer the same; and what they answer must go together.
+//! One case: the library and the plain functions are called with the same, and must answer the same; and what they answer must go together.
 //!
-//! A text: at a room that is enough and at others, and its row is read back as the normalised text. A row: the same, its text is transcribed back to it,
-//! and steps are taken. The memory of each call is looked at ([`crate::memory`]).
-use crate::functions::{sign_of, Function, Sign, READERS, STEPPERS, TRANSCRIBERS};
+//! A text: at a room that is enough and at others, and its row is read back as the normalised text. A row: the same, its text is
+//! transcribed back to it, and steps are taken ([`crate::steps`]). The memory of each call is looked at ([`crate::memory`]).
+use crate::difference::{holds, Difference};
+use crate::functions::{Function, READERS, TRANSCRIBERS};
 use crate::memory::{Fault, Memory};
 use crate::show::{answered, Element};
+use crate::steps::steps;
 use crate::trials::Trials;
-use crate::{Answer, No};
+use crate::Answer;
 use omdurgash::{LONGEST_ROW, LONGEST_TEXT};
 use std::mem::take;
 use vectors::normal::normalised;
@@ -20,28 +22,7 @@ pub const PLENTY_OF_CELLS: usize = LONGEST_ROW + 4;
 /// More room than any text needs.
 pub const PLENTY_OF_POINTS: usize = LONGEST_TEXT + 4;
 
-/// Of a row with more cells, not every place is stepped at: each step costs as much as reading the row.
-const EVERY_PLACE_UP_TO: usize = 64;
-
 const NEEDS_ROOM: u8 = 6;
-
-/// The first thing that is not as it should be, in words, below the print or row that shows it.
-#[derive(Debug, PartialEq, Eq)]
-pub struct Difference(pub String);
-
-impl Difference {
-    fn of<T: Element>(input: &[T], what: &str) -> Difference {
-        Difference(format!("        {}\n    {what}", T::shown(input)))
-    }
-}
-
-/// Gives the difference, unless it is as it should be.
-fn holds<T: Element>(is_so: bool, input: &[T], otherwise: impl FnOnce() -> String) -> Result<(), Difference> {
-    match is_so {
-        true => Ok(()),
-        false => Err(Difference::of(input, &otherwise())),
-    }
-}
 
 /// The memory for the calls, and what they write.
 pub struct Check<P, C> {
@@ -93,7 +74,7 @@ impl<P: Memory<u32>, C: Memory<u8>> Check<P, C> {
                 format!("its text:\n        {}\n    has the row\n        {}", Element::shown(&text), answered(written, &self.row))
             })?;
         }
-        self.steps(row, answer.map(|_| &text[..]), trials)?;
+        steps(&mut self.cells, row, answer.map(|_| &text[..]), trials)?;
         Ok(answer)
     }
 
@@ -105,57 +86,6 @@ impl<P: Memory<u32>, C: Memory<u8>> Check<P, C> {
     /// The answer of all readers. The text comes to `self.text`.
     fn read(&mut self, row: &[u8], room: usize) -> Result<Answer, Difference> {
         all_agree((&mut self.cells, &mut self.points), &READERS, row, room, (&mut self.text, &mut self.other_text))
-    }
-
-    /// Steps at the places that are to be tried.
-    fn steps(&mut self, row: &[u8], text: Result<&[u32], No>, trials: &Trials) -> Result<(), Difference> {
-        match trials.places(row.len()) {
-            None if row.len() <= EVERY_PLACE_UP_TO => self.steps_everywhere(row, text),
-            None => [0, row.len() / 2, row.len(), usize::MAX].into_iter().try_for_each(|place| self.step(row, text, place).map(drop)),
-            Some(places) => places.into_iter().try_for_each(|place| self.step(row, text, place).map(drop)),
-        }
-    }
-
-    /// Steps at every place up to one past the end, and at the greatest. One sign starts where the one before it ends, and nowhere else; the signs are
-    /// the text, and those that the library's iterator gives.
-    fn steps_everywhere(&mut self, row: &[u8], text: Result<&[u32], No>) -> Result<(), Difference> {
-        let (mut start, mut joined) = (0, take(&mut self.other_text));
-        joined.clear();
-        let mut iterated = omdurgash::signs(row).into_iter().flatten();
-        for place in (0..=row.len() + 1).chain([usize::MAX]) {
-            let Ok(sign) = self.step(row, text, place)? else { continue };
-            let is_start = place == start && place < row.len();
-            holds(is_start == (sign.count > 0), row, || format!("place {place}: {sign:X?}, and the sign before it ends at {start}"))?;
-            if is_start {
-                let next = iterated.next().map(|sign| (sign.place(), sign_of(sign.points(), sign.next())));
-                holds(next == Some((place, sign)), row, || format!("place {place}: {sign:X?}, and the iterator gives {next:X?}"))?;
-                joined.extend_from_slice(&sign.points[..sign.count]);
-                start = sign.next;
-            }
-        }
-        holds(text.is_err() || start == row.len() && text == Ok(&joined), row, || {
-            format!("the steps end at {start} and give\n        {}", Element::shown(&joined))
-        })?;
-        self.other_text = joined;
-        holds(iterated.next().is_none(), row, || "the iterator gives more than the steps".to_string())
-    }
-
-    /// One step by all: of a row that is refused the same refusal, and otherwise no code point and the same place, or a sign of this row.
-    fn step(&mut self, row: &[u8], text: Result<&[u32], No>, place: usize) -> Result<Result<Sign, No>, Difference> {
-        let [first, other] = STEPPERS.map(|(name, step)| {
-            let lent = self.cells.lend(row, |row| step(row, place));
-            lent.map_err(|Fault(what)| Difference::of(row, &format!("place {place}, {name}: {what}")))
-        });
-        let (answer, other) = (first?, other?);
-        holds(answer == other, row, || format!("place {place}: {answer:X?} by the library, {other:X?} by the plain step"))?;
-        let is_due = match (answer, text) {
-            (Err(no), Err(due)) => no == due,
-            (Ok(Sign { count: 0, next, .. }), Ok(_)) => next == place,
-            (Ok(Sign { count, next, .. }), Ok(_)) => count <= 2 && next > place && next <= row.len(),
-            _ => false,
-        };
-        holds(is_due, row, || format!("place {place}: {answer:X?}, and the row is read as {text:X?}"))?;
-        Ok(answer)
     }
 }
 

@@ -1,6 +1,6 @@
-//! Memory for a run under memcheck, valgrind's tool: each stretch that is lent is a block of its own, of exactly the length that is lent, and what
-//! stands in it to be written to is undefined to memcheck. It then tells of a read or write one element past either end, of an element that is counted
-//! and was not written, and of a branch on what stood in the row or text before.
+//! Memory for a run under memcheck, valgrind's tool: each stretch that is lent is a block of its own, of exactly the length that is lent,
+//! and what is lent to be written to is undefined to memcheck. It then tells of a read or write one element past either end, of an element
+//! that is counted and was not written, and of a branch on what stood in the row or text before.
 use crate::memcheck;
 use crate::memory::{counted, Fault, Memory};
 use crate::show::Element;

@@ -1,7 +1,7 @@
 //! All short texts and all short rows.
 use std::ops::Range;
 
-/// Every sequence of up to so many of the elements, from the empty one on, to `take`; up to the first that it has an error for. Gives their count.
+/// Hands every sequence of up to so many of the elements, from the empty one on, to `take`, up to the first error. Gives their count.
 pub fn all_up_to<T: Copy, E>(length: usize, elements: &[T], mut take: impl FnMut(&[T]) -> Result<(), E>) -> Result<u64, E> {
     let mut taken = 0;
     for length in 0..=length {
@@ -35,18 +35,19 @@ pub fn cells() -> Vec<u8> {
 /// A code point for each class of the rules, and both members of each kind of pairs.
 #[rustfmt::skip]
 pub const REPRESENTATIVES: [(char, &str); 45] = [
-    ('a', "a to j, the cell of 1 and of ª"), ('b', "a to j"), ('k', "another small letter"), ('o', "the cell of º"), ('é', "an accented letter"),
-    ('B', "the capital of a to j"), ('Z', "another capital"), ('Ü', "a capital with marks"),
+    ('a', "a to j, the cell of 1 and of ª"), ('b', "a to j"), ('k', "another small letter"), ('o', "the cell of º"),
+    ('é', "with an accent"), ('B', "the capital of a to j"), ('Z', "another capital"), ('Ü', "a capital with marks"),
     ('1', "the digit that is no denominator"), ('0', "the last digit"), ('2', "another digit"),
     ('.', "a point in a number, the full stop of an ordinal"), (',', "a comma in a number; the lower 1"),
     (';', "the lower 2"), (':', "the lower 3"), ('=', "the lower 7"),
-    ('¿', "opens, the lower 5"), ('?', "closes"), ('¡', "opens, the lower 6"), ('!', "closes"), ('«', "opens, the lower 8"), ('»', "closes"),
-    ('‘', "opens, two cells"), ('’', "closes"), ('\u{E000}', "opens emphasis, the lower 9"), ('\u{E001}', "closes it"),
+    ('¿', "opens, the lower 5"), ('?', "closes"), ('¡', "opens, the lower 6"), ('!', "closes"),
+    ('«', "opens, the lower 8"), ('»', "closes"), ('‘', "opens, two cells"), ('’', "closes"),
+    ('\u{E000}', "opens emphasis, the lower 9"), ('\u{E001}', "closes it"),
     ('“', "becomes «"), ('”', "becomes »"), ('‹', "becomes ‘"), ('›', "becomes ’"), ('…', "becomes three full stops"),
     ('º', "ends an ordinal"), ('ª', "ends an ordinal, and shares its cell with a"), ('\u{2044}', "a fraction"),
     ('-', "the hyphen"), ('—', "the dash"),
-    ('/', "two cells, the second a comma's"), ('>', "46 first, as a capital"), ('{', "5 first, as a letter after a digit"), ('&', "6 first"),
-    ('%', "the first cells of ‰"), ('‰', "three cells"),
+    ('/', "two cells, the second a comma's"), ('>', "46 first, as a capital"), ('{', "5 first, as a letter after a digit"),
+    ('&', "6 first"), ('%', "the first cells of ‰"), ('‰', "three cells"),
     ('(', "one cell of its own"), (' ', "the blank"),
     ('@', "without a sign"),
 ];

@@ -1,6 +1,7 @@
-//! Texts that must be accepted, put together piece by piece from what paper 01 lets stand behind each other. A third opinion, besides the library's
-//! and the plain one: what is made here and is refused is a difference.
+//! Texts that must be accepted, put together piece by piece from what paper 01 lets stand behind each other. A third opinion besides those
+//! of the library and of the plain functions: what is made here and is refused is a difference.
 use crate::classes::{capital, ANYWHERE, A_TO_J, DASH, DIGITS, ELLIPSIS, FRACTION, HYPHEN, ORDINALS, OTHER_SMALL, PAIRS, POINTS};
+use crate::mix::{Weights, MIXES};
 use crate::random::Random;
 
 /// What stands directly before, as far as it matters for what may follow.
@@ -10,7 +11,7 @@ enum Before {
     Other,
     /// A digit of an ordinary number: another would belong to it.
     Number,
-    /// A point or comma that directly follows such a digit: a digit would belong to the number, and a to j would share their cells with one.
+    /// A point or comma that directly follows such a digit: a digit would belong to the number, and a to j would share the cells of one.
     PointOfNumber,
     /// A digit of a denominator: another would belong to it.
     Denominator,
@@ -20,48 +21,6 @@ enum Before {
     Hyphen,
     /// A dash: no hyphen may follow.
     Dash,
-}
-
-/// What a text has most of.
-#[derive(Clone, Copy)]
-enum Mix {
-    /// Some of all.
-    All,
-    /// Words.
-    Prose,
-    /// Numbers, ordinals and fractions, and what may stand around them.
-    Numbers,
-    /// Pair marks, hyphens and dashes.
-    Marks,
-    /// Signs of two cells and of three: the longest rows.
-    Wide,
-}
-
-const MIXES: [Mix; 6] = [Mix::All, Mix::All, Mix::Prose, Mix::Numbers, Mix::Marks, Mix::Wide];
-
-/// Kinds of pieces: so many of each in a hundred.
-struct Weights {
-    word: usize,
-    number: usize,
-    ordinal: usize,
-    fraction: usize,
-    point: usize,
-    line: usize,
-    mark: usize,
-    per_mille: usize,
-}
-
-impl Mix {
-    /// What is left of the hundred are signs that may stand anywhere.
-    fn weights(self) -> Weights {
-        match self {
-            Mix::All => Weights { word: 25, number: 12, ordinal: 8, fraction: 8, point: 10, line: 8, mark: 14, per_mille: 1 },
-            Mix::Prose => Weights { word: 50, number: 4, ordinal: 1, fraction: 1, point: 8, line: 2, mark: 8, per_mille: 0 },
-            Mix::Numbers => Weights { word: 15, number: 22, ordinal: 15, fraction: 15, point: 25, line: 2, mark: 2, per_mille: 0 },
-            Mix::Marks => Weights { word: 15, number: 3, ordinal: 2, fraction: 2, point: 3, line: 25, mark: 45, per_mille: 0 },
-            Mix::Wide => Weights { word: 2, number: 0, ordinal: 0, fraction: 0, point: 0, line: 2, mark: 5, per_mille: 81 },
-        }
-    }
 }
 
 /// Writes into `print` a text that must be accepted but for its length: its normalised length is exactly `length`.

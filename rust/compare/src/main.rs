@@ -1,5 +1,6 @@
 //! Runs the comparison by hand: `compare SEED TEXTS ROWS`, or under valgrind `compare memory SEED COUNT`.
-use compare::check::{Check, Difference};
+use compare::check::Check;
+use compare::difference::Difference;
 use compare::exact::Exact;
 use compare::exhaustive::{all_up_to, cells};
 use compare::memcheck;

@@ -1,5 +1,5 @@
-//! What memcheck, valgrind's tool, is told about memory: requests of its own, which are idle instructions where the program runs by itself. The numbers
-//! and the instructions are those of valgrind's `valgrind.h` and `memcheck.h`.
+//! What memcheck, valgrind's tool, is told about memory: by idle instructions, which mean something only to it. They and the numbers are
+//! those of valgrind's `valgrind.h` and `memcheck.h`.
 
 const RUNNING_ON_VALGRIND: usize = 0x1001;
 

@@ -1,5 +1,5 @@
-//! The memory that a call is lent, and what must be so of it afterwards: print or row to be read is as it was, and of what was lent to be written to
-//! only the first elements have changed, as many as the answer says; on a refusal none.
+//! The memory that a call is lent, and what must be so of it afterwards: what was lent to be read is as it was, and of what was lent to be
+//! written to only the first elements have changed, as many as the answer says; on a refusal none.
 use crate::show::Element;
 use crate::Answer;
 use std::hint::black_box;
@@ -20,7 +20,7 @@ pub trait Memory<T> {
 /// So many elements before what is lent, and as many after it, are looked at.
 const GUARD: usize = 16;
 
-/// One stretch for all calls, in which every element is untouched between two of them. So nothing is filled or cleared but what a call has used.
+/// One stretch for all calls, in which every element is untouched between two of them: nothing is cleared but what a call has used.
 pub struct Guarded<T> {
     memory: Vec<T>,
     /// As long, and always untouched.

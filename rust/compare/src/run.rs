@@ -1,6 +1,7 @@
 //! A run: so many cases of a seed, and what they came to.
 use crate::cases::{Cases, Known, MOST_CELLS, MOST_POINTS};
-use crate::check::{Check, Difference, PLENTY_OF_CELLS, PLENTY_OF_POINTS};
+use crate::check::{Check, PLENTY_OF_CELLS, PLENTY_OF_POINTS};
+use crate::difference::{holds, Difference};
 use crate::memory::{Guarded, Memory};
 use crate::random::Random;
 use crate::show::Element;
@@ -92,10 +93,8 @@ fn is_known<T: Element>(known: Known, cells: usize, answer: Answer, input: &[T])
         Known::Length(points) if points > LONGEST_TEXT => answer == Err((1, points)),
         Known::Length(_) => answer.is_ok(),
     };
-    match is_so {
-        true => Ok(answer),
-        false => Err(Difference(format!("        {}\n    was made as {known:?} and is answered {answer:?}", T::shown(input)))),
-    }
+    holds(is_so, input, || format!("it was made as {known:?}, and the answer is {answer:?}"))?;
+    Ok(answer)
 }
 
 /// A case that is being run. It tells which, also where a function panics.

@@ -1,5 +1,6 @@
 //! How elements and answers are told: in the words of the vector files, so that a difference can be turned into a vector.
-use crate::Answer;
+use crate::functions::Sign;
+use crate::{Answer, No};
 use std::fmt::Write;
 
 /// An element of print, or of a row.
@@ -53,6 +54,14 @@ pub fn answered<T: Element>(answer: Answer, written: &[T]) -> String {
     }
 }
 
+/// What a step gives, with the place after the sign.
+pub fn stepped(answer: Result<Sign, No>) -> String {
+    match answer {
+        Ok(Sign { points, count, next }) => format!("{}, then place {next}", u32::shown(&points[..count])),
+        Err((number, second)) => format!("no {number} {second}"),
+    }
+}
+
 #[cfg(test)]
 mod tests {
     use super::*;
@@ -63,5 +72,6 @@ mod tests {
         assert_eq!(Element::shown(&[60_u8, 19, 0, 16, 3]), "dots 3456-125-0-5-12\n        cells ⠼⠓⠀⠐⠃");
         assert_eq!(Element::shown(&[64_u8, 0]), "bytes 40 0");
         assert_eq!(answered::<u8>(Err((5, 2)), &[]), "no 5 2");
+        assert_eq!(stepped(Ok(Sign { points: [0x2044, 0x34], count: 2, next: 12 })), "points 2044 34, then place 12");
     }
 }

@@ -1,5 +1,6 @@
-//! A million texts and a million rows, drawn by a seed, through the library and the plain functions. The program `compare` runs more of them by hand.
-use compare::check::Difference;
+//! A million texts and a million rows, drawn by a seed, through the library and the plain functions. The program `compare` runs more by
+//! hand.
+use compare::difference::Difference;
 use compare::run::{guarded, rows, texts, Tally};
 use vectors::say;
 

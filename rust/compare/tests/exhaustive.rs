@@ -1,9 +1,9 @@
 //! All short texts and all short rows through the library and the plain functions, at every room, and the rows at every place.
 //!
-//! No text is longer than its row, so a row of three cells that has a text has one of up to three code points. Each of these is transcribed, and what it
-//! gives is read as the text; each row that is read is what its text gives. So exactly the right rows are accepted.
-use compare::check::Difference;
+//! No text is longer than its row, so a row of three cells that has a text has one of up to three code points. Each of these is
+//! transcribed, and its row is read as it; each row that is read is the row of its text. So exactly the right rows are accepted.
 use compare::classes::alphabet;
+use compare::difference::Difference;
 use compare::exhaustive::{all_up_to, cells, code_points, representatives};
 use compare::run::{guarded, Tally};
 use compare::trials::Trials;

@@ -1,5 +1,5 @@
-//! Reading and stepping through the library: every vector at several rooms and places, every byte that is no cell, and the greatest lengths. The plain
-//! readers and the plain step go through the same.
+//! Reading and stepping through the library: every vector at several rooms and places, every byte that is no cell, and the greatest
+//! lengths. The plain readers and the plain step go through the same.
 use omdurgash::{read, step, Refusal, LONGEST_ROW, LONGEST_TEXT};
 use std::collections::HashMap;
 use std::fs::read_to_string;
@@ -107,7 +107,10 @@ fn places(row: &[u8]) -> Vec<usize> {
 /// What a step gives: the code points and the next place, or the refusal.
 type Stepped = Result<(Vec<u32>, usize), No>;
 
-const STEPPERS: [(&str, fn(&[u8], usize) -> Stepped); 2] = [("the library", step_by_library), ("the plain step", step_plainly)];
+/// A step: the library's, or the plain one.
+type Stepper = fn(&[u8], usize) -> Stepped;
+
+const STEPPERS: [(&str, Stepper); 2] = [("the library", step_by_library), ("the plain step", step_plainly)];
 
 fn step_by_library(row: &[u8], place: usize) -> Stepped {
     step(row, place).map(|sign| (sign.points().to_vec(), sign.next())).map_err(no)
