@@ -1,5 +1,6 @@
 //! What memcheck, valgrind's tool, is told about memory: by idle instructions, which mean something only to it. They and the numbers are
 //! those of valgrind's `valgrind.h` and `memcheck.h`.
+use std::mem::size_of_val;
 
 const RUNNING_ON_VALGRIND: usize = 0x1001;
 
