@@ -25,7 +25,7 @@ const BLANK: u8 = 0;
 /// One row of an accepted text in so many is made as long as rows may be.
 const ONE_LONG_ROW_IN: usize = 1_024;
 
-/// Makes texts and rows. What it keeps are only lists.
+/// Makes texts and rows. What it keeps from case to case is only memory.
 pub struct Cases {
     alphabet: Vec<u32>,
     text: Vec<u32>,
@@ -48,7 +48,8 @@ impl Default for Cases {
 }
 
 impl Cases {
-    /// Writes the text of a case into `print`.
+    /// Writes the text of a case into `print`. Of ten, four can only be too long, three have one fault, two are of the alphabet, and one is of
+    /// any numbers.
     pub fn text(&mut self, random: &mut Random, print: &mut Vec<u32>) -> Known {
         let length = length(random);
         match random.below(10) {
@@ -83,7 +84,8 @@ impl Cases {
         }
     }
 
-    /// Writes the row of a case into `row`.
+    /// Writes the row of a case into `row`. Of ten, four can only be too long, three have one fault, and one each is of any cells, of telling
+    /// ones, and of any bytes.
     pub fn row(&mut self, random: &mut Random, row: &mut Vec<u8>) -> Known {
         row.clear();
         match random.below(10) {
@@ -103,7 +105,7 @@ impl Cases {
     fn accepted_row(&mut self, random: &mut Random, row: &mut Vec<u8>) -> Known {
         let mut points = self.add_row(random, usize::MAX, row);
         if random.once_in(ONE_LONG_ROW_IN) {
-            let cells = LONGEST_ROW - 6 + random.below(16);
+            let cells = around(LONGEST_ROW, random);
             while row.len() < cells {
                 row.push(BLANK);
                 points += 1 + self.add_row(random, cells - row.len(), row);
@@ -125,10 +127,15 @@ impl Cases {
     }
 }
 
+/// A length from six below a limit to nine above it.
+fn around(limit: usize, random: &mut Random) -> usize {
+    limit - 6 + random.below(16)
+}
+
 /// A length: mostly short, seldom up to the limit, and seldom around it.
 fn length(random: &mut Random) -> usize {
     match random.below(2_048) {
-        0 => LONGEST_TEXT - 6 + random.below(16),
+        0 => around(LONGEST_TEXT, random),
         1 | 2 => random.below(LONGEST_TEXT),
         3..=34 => random.below(300),
         _ => random.below(20),
