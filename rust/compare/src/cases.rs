@@ -48,8 +48,8 @@ impl Default for Cases {
 }
 
 impl Cases {
-    /// Writes the text of a case into `print`. Of ten, four can only be too long, three have one fault, two are of the alphabet, and one is of
-    /// any numbers.
+    /// Writes the text of a case into `print`. Of ten, four can only be too long, three have one fault, two are of the alphabet, and one is
+    /// of any numbers.
     pub fn text(&mut self, random: &mut Random, print: &mut Vec<u32>) -> Known {
         let length = length(random);
         match random.below(10) {
@@ -84,8 +84,8 @@ impl Cases {
         }
     }
 
-    /// Writes the row of a case into `row`. Of ten, four can only be too long, three have one fault, and one each is of any cells, of telling
-    /// ones, and of any bytes.
+    /// Writes the row of a case into `row`. Of ten, four can only be too long, three have one fault, and one each is of any cells, of
+    /// telling ones, and of any bytes.
     pub fn row(&mut self, random: &mut Random, row: &mut Vec<u8>) -> Known {
         row.clear();
         match random.below(10) {
