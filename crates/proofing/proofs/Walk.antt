@@ -18,7 +18,7 @@ use Rattle.rules.specs.Screen.{signAt, shows, Stepped}
 use Rattle.rules.proofs.Castilian.{sane}
 use Rattle.rules.proofs.Signs.{signs-join, Filled, filled-signs}
 use Rattle.rules.proofs.Steps.{Left, left-on, step-here}
-use Rattle.signs.specs.Print.{points}
+use Rattle.readings.specs.Print.{points}
 use Rattle.reader.specs.Promise.{sign-there}
 use Rattle.reader.specs.declared.Shown.the-variants as steps
 use Rattle.reader.proofs.Points.{known}

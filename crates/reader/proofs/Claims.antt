@@ -22,7 +22,7 @@ use Rattle.rules.proofs.Castilian.{sane}
 use Rattle.rules.proofs.Answers as answers
 use Rattle.rows.specs.Laid.{laid}
 use Rattle.rows.proofs.Laid.{length-laid, front}
-use Rattle.signs.specs.Print.{points}
+use Rattle.readings.specs.Print.{points}
 use Rattle.reader.specs.declared.Answer.{Answer}
 use Rattle.reader.specs.declared.Answer.the-variants.{Done, TooLong, NotACell, NoText, NeedsRoom}
 use Rattle.reader.specs.declared.Shown.{Shown}

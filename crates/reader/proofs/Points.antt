@@ -11,7 +11,7 @@ use lib.ListN.{length, set}
 use borrow.Author.Tests.{eq-eqb, ne-eqb, eqb-true, eqb-false}
 use Rattle.rows.specs.Laid.{laid}
 use Rattle.rows.proofs.Laid.{wrote-one, wrote-two}
-use Rattle.signs.specs.Print.{points}
+use Rattle.readings.specs.Print.{points}
 
 -- a lead of 0 is none
 pub known : (l : ℕ) → (l ≡ 0) ⊎ (l ≡ 0 → ⊥)

@@ -22,7 +22,7 @@ use Rattle.rules.proofs.Pieces.{Piece, sign-of}
 use Rattle.rules.proofs.Profile.{Sane, OfText, of-text, pieces-of}
 use Rattle.rules.proofs.Signs.{signs-join, filled-signs}
 use Rattle.rules.proofs.Steps.{walks, joined-signs}
-use Rattle.signs.specs.Print.{points}
+use Rattle.readings.specs.Print.{points}
 use Rattle.reader.specs.Promise.{Shows, sign-there, no-sign-there}
 use Rattle.reader.specs.Claims.{StillExactly, Visits, printBy, WalkShowsText}
 use Rattle.reader.specs.Passes.{CodedSign}

@@ -17,13 +17,13 @@ use Rattle.rules.specs.Screen.{signAt}
 use Rattle.rules.specs.Refusals.{longestRow}
 use Rattle.rules.proofs.Finite.{le-or-lt}
 use Rattle.pairs.specs.Opened.{openStates}
-use Rattle.signs.specs.Modes.{modeCount}
-use Rattle.signs.specs.Left.{left, addSign}
-use Rattle.signs.specs.Print.{points}
+use Rattle.readings.specs.Modes.{modeCount}
+use Rattle.readings.specs.Left.{left, addSign}
+use Rattle.readings.specs.Print.{points}
 use Rattle.signs.specs.Runs.{Quick}
-use Rattle.signs.specs.declared.Step.{Step}
-use Rattle.signs.specs.declared.Step.the-variants as step
-use Rattle.signs.proofs.Turning.{Turn, turn-of}
+use Rattle.readings.specs.declared.Step.{Step}
+use Rattle.readings.specs.declared.Step.the-variants as step
+use Rattle.readings.proofs.Turning.{Turn, turn-of}
 use Rattle.reader.specs.Passes.{Wrote, mostPoints, addSigns, Starts, Leads, Runs, runs-on, Goes, goes-on, goes-nowhere}
 use Rattle.reader.specs.declared.Walked.{Walked}
 use Rattle.reader.specs.declared.Walked.the-variants.{On, Nowhere}

@@ -8,7 +8,7 @@ use borrow.Rule.Slice.PartMut.{putMid}
 use Rattle.rules.specs.Cells.{Text}
 use Rattle.rows.specs.Laid.{laid}
 use Rattle.rows.proofs.Laid.{laid-none, laid-step, laid-part, turn-length}
-use Rattle.signs.specs.Print.{points}
+use Rattle.readings.specs.Print.{points}
 use Rattle.reader.specs.Passes.{Wrote}
 use Rattle.reader.proofs.Points.{points-width}
 

@@ -1,5 +1,5 @@
 -- What the inner functions promise. In order: the first byte that is no cell; why a row is refused; what is written to a lent
--- text; what a walk over a part of the row finds. A walk is told by the signs that the rules' own reader finds (`left` of the crate `signs`); only these
+-- text; what a walk over a part of the row finds. A walk is told by the signs that the rules' own reader finds (`left` of the crate `readings`); only these
 -- inner promises name it. Assumes nothing.
 use mathlib.Core.List.{List, [], _∷_, _++_}
 use mathlib.Core.Option.{Option, none, some}
@@ -13,9 +13,9 @@ use Rattle.rules.specs.Refusals.{Refusal, longestRow}
 use Rattle.rules.specs.Answers.{RowRefused}
 use Rattle.pairs.specs.Opened.{openStates}
 use Rattle.rows.specs.Laid.{laid}
-use Rattle.signs.specs.Modes.{modeCount}
-use Rattle.signs.specs.Left.{left, addSign}
-use Rattle.signs.specs.Print.{points}
+use Rattle.readings.specs.Modes.{modeCount}
+use Rattle.readings.specs.Left.{left, addSign}
+use Rattle.readings.specs.Print.{points}
 use Rattle.reader.specs.Promise.{refusalOf}
 use Rattle.reader.specs.declared.Answer.{Answer}
 use Rattle.reader.specs.declared.Walked.{Walked}

@@ -2,13 +2,13 @@
 // One loop walks the row sign by sign. Between two signs it knows a mode and which pairs are open; both follow from the cells before, and neither is kept
 // from one call to the next. `read` walks twice: first without room, so that nothing is written before all is known to fit. `step` walks once, in three
 // parts: up to its place, over the sign there, and to the end.
-use signs::DASH;
-use signs::FREE;
+use readings::DASH;
+use readings::FREE;
+use readings::NO_POINT;
+use readings::OWING;
+use readings::Step;
 use signs::LAST_CELL;
-use signs::NO_POINT;
 use signs::NO_RUN;
-use signs::OWING;
-use signs::Step;
 ghost use mathlib.Core.Bool.{_&&_};
 ghost use mathlib.Core.Logic.{_⊎_};
 ghost use mathlib.Core.Path.{_≡_};
@@ -22,9 +22,9 @@ ghost use Rattle.rules.specs.Refusals.{longestRow, reported};
 ghost use Rattle.rules.proofs.Machine.{at-rest};
 ghost use Rattle.pairs.specs.Opened.{openStates};
 ghost use Rattle.rows.specs.Laid.{laid};
-ghost use Rattle.signs.specs.Modes.{modeOf, modeCount, owing, dash};
+ghost use Rattle.readings.specs.Modes.{modeOf, modeCount, owing, dash};
 ghost use Rattle.signs.specs.Runs.{noRun, runOf};
-ghost use Rattle.signs.specs.Print.{points};
+ghost use Rattle.readings.specs.Print.{points};
 ghost use Rattle.reader.specs.Promise.{Read, Shows};
 ghost use Rattle.reader.specs.Passes.{FirstHigh, RefusesRow, mostPoints, Wrote, Runs, Goes};
 

@@ -4,8 +4,8 @@ use Prim.Native.Nat.{ℕ, _-_, _<_}
 use native.Mathlib.Omega.{arith}
 use borrow.Author.Needs.{needs}
 use lib.ListN.{length}
-use Rattle.signs.specs.Modes.{dash}
-use Rattle.signs.proofs.Turning.{Turn}
+use Rattle.readings.specs.Modes.{dash}
+use Rattle.readings.proofs.Turning.{Turn}
 use Rattle.reader.proofs.Walking.{Mid, mid-start, mid-most, mid-on, mid-runs, quick-turn}
 use Rattle.reader.proofs.dashes.Statement.{statement}
 use Rattle.reader.proofs.dashes.Tie as tie

@@ -7,7 +7,7 @@ use native.Mathlib.Omega.{arith}
 use lib.ListN.{length}
 use Rattle.rules.specs.Signs.{printOf}
 use Rattle.rows.specs.Laid.{laid}
-use Rattle.signs.specs.Left.{left}
+use Rattle.readings.specs.Left.{left}
 use Rattle.reader.proofs.Whole.{left-none, Told}
 use Rattle.reader.proofs.Parts.{not-so, so, Went, went, lost, nothing-back, not-to-end, told-whole, written-whole}
 use Rattle.reader.proofs.Answering.{row-long, row-long-text, read-cramped, read-done, read-refused}

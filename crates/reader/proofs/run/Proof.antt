@@ -5,7 +5,7 @@ use native.Mathlib.Omega.{arith}
 use borrow.Author.Needs.{needs}
 use lib.ListN.{length}
 use Rattle.signs.specs.Runs.{noRun}
-use Rattle.signs.proofs.Turning.{Turn}
+use Rattle.readings.proofs.Turning.{Turn}
 use Rattle.reader.proofs.Walking.{Mid, mid-start, mid-most, mid-on, mid-runs, quick-turn}
 use Rattle.reader.proofs.run.Statement.{statement}
 use Rattle.reader.proofs.run.Tie as tie

@@ -10,8 +10,8 @@ use lib.Dec.{eqb}
 use lib.ListN.{length}
 use Rattle.rules.specs.Refusals.{longestRow}
 use Rattle.rules.proofs.Machine.{at-rest}
-use Rattle.signs.specs.Modes.{modeOf}
-use Rattle.signs.specs.Left.{left}
+use Rattle.readings.specs.Modes.{modeOf}
+use Rattle.readings.specs.Left.{left}
 use Rattle.reader.proofs.Whole.{left-none, Told}
 use Rattle.reader.proofs.Parts.{not-so, so, Went, went, lost, not-to-end, lost-behind, few-parts, told-parts, no-sign-seen, sign-seen, one-point, two-points}
 use Rattle.reader.proofs.Walking.{leads-nowhere}

@@ -7,13 +7,13 @@ use Prim.Native.Nat.{ℕ, _-_, _<_, zero-le}
 use native.Mathlib.Omega.{arith}
 use borrow.Author.Needs.{needs}
 use lib.ListN.{length, drop}
-use Rattle.signs.specs.Fields.{cellOf}
-use Rattle.signs.specs.Words.{wordOf}
-use Rattle.signs.specs.Readings.{stepAt}
-use Rattle.signs.specs.Left.{left}
-use Rattle.signs.specs.declared.Step.the-variants.{Nothing}
+use Rattle.readings.specs.Fields.{cellOf}
+use Rattle.readings.specs.Words.{wordOf}
+use Rattle.readings.specs.Readings.{stepAt}
+use Rattle.readings.specs.Left.{left}
+use Rattle.readings.specs.declared.Step.the-variants.{Nothing}
 use Rattle.signs.proofs.Cases.{word-there, as-usual, kind-known, no-cell}
-use Rattle.signs.proofs.Turning.{Turn, turn-of, none-left}
+use Rattle.readings.proofs.Turning.{Turn, turn-of, none-left}
 use Rattle.reader.proofs.Walking.{Mid, mid-start, mid-few, mid-most, mid-on, mid-more, mid-nowhere, mid-end, runs-somewhere, runs-forward}
 use Rattle.reader.proofs.walk.Statement.{statement}
 use Rattle.reader.proofs.walk.Tie as tie

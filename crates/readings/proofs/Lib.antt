@@ -1,0 +1,5 @@
+pub mod Words
+pub mod Sight
+pub mod Settling
+pub mod Tested
+pub mod Turning
