@@ -29,7 +29,7 @@ use Rattle.reader.specs.declared.Shown.{Shown}
 use Rattle.reader.specs.declared.Shown.the-variants.{Refused}
 use Rattle.reader.specs.Promise.{refusalOf, Read, done, refused, sign-there, no-sign-there, row-refused}
 use Rattle.reader.specs.Claims.{OneOutcome, OneShown, CountIsLength, RestAsItWas, RefusalWritesNothing, ReturnsTheText, NoTextExactly, RefusedAsRead, NeverSix, StillExactly, WalkShowsText}
-use Rattle.reader.proofs.Points.{points-width, points-inj}
+use Rattle.readings.proofs.Print.{points-width, points-inj}
 use Rattle.reader.proofs.Visiting.{shows-same, still-exactly-in, walk-shows-text-in}
 
 -- an answer is known by its refusal

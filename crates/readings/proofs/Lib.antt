@@ -3,3 +3,4 @@ pub mod Sight
 pub mod Settling
 pub mod Tested
 pub mod Turning
+pub mod Print

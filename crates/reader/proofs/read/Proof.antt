@@ -19,7 +19,7 @@ use Rattle.reader.proofs.read.Lts as lts
 use Rattle.reader.proofs.ends.Reads as ends-reads
 use Rattle.reader.proofs.reported_length.Reads as reported-length-reads
 use Rattle.reader.proofs.unread.Reads as unread-reads
-use Rattle.reader.proofs.walk.Reads as walk-reads
+use Rattle.walks.proofs.walk.Reads as walk-reads
 
 abbrev row : tie.Start → List ℕ
 row s = s .args .row .now

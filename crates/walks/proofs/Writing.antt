@@ -1,16 +1,16 @@
--- What is written to a lent text, if there is room (`Wrote`). In order: nothing; one print behind another; the ends of `put`. Assumes nothing.
+-- What is written to a lent text, if there is room (`Wrote`). In order: nothing; one print behind another; the ends of `put_sign` and of `put`. Assumes nothing.
 use mathlib.Core.Path.{_≡_, refl, sym, ap, _∙_}
 use mathlib.Core.List.{List, [], _++_}
 use Prim.Native.Nat.{ℕ, _+_, _-_, _≤_, _<_}
 use native.Mathlib.Omega.{arith}
-use lib.ListN.{length, take, drop, length-append, length-take, length-drop}
+use lib.ListN.{length, set, take, drop, length-append, length-take, length-drop}
 use borrow.Rule.Slice.PartMut.{putMid}
 use Rattle.rules.specs.Cells.{Text}
 use Rattle.rows.specs.Laid.{laid}
-use Rattle.rows.proofs.Laid.{laid-none, laid-step, laid-part, turn-length}
+use Rattle.rows.proofs.Laid.{wrote-one, wrote-two, laid-none, laid-step, laid-part, turn-length}
 use Rattle.readings.specs.Print.{points}
-use Rattle.reader.specs.Passes.{Wrote}
-use Rattle.reader.proofs.Points.{points-width}
+use Rattle.walks.specs.Walks.{Wrote}
+use Rattle.readings.proofs.Print.{points-one, points-two, points-width}
 
 pub wrote-none : (t : List ℕ) (n : ℕ) → Wrote t t n []
 wrote-none t n = (refl, λ h. sym (laid-none t n))
@@ -24,6 +24,14 @@ wrote-on t u v n m p q a e b = (
       g ∙ ap (λ (i : ℕ). take i u ++ laid q (drop i u)) e
       ∙ ap (λ (x : List ℕ). take (n + length p) x ++ laid q (drop (n + length p) x)) f ∙ laid-step t n p q (omega (arith, length-append p q)),
 )
+
+-- THE ENDS OF `put_sign`
+module _ (l p : ℕ) (t : List ℕ) (room : length (points l p) ≤ length t) where
+  pub put-one : l ≡ 0 → (1 ≡ length (points l p)) × (set t 0 p ≡ laid (points l p) t)
+  put-one e = wrote-one (points l p) t room p (points-one l p e)
+
+  pub put-two : (l ≡ 0 → ⊥) → (2 ≡ length (points l p)) × (set (set t 0 l) 1 p ≡ laid (points l p) t)
+  put-two e = wrote-two (points l p) t room l p (points-two l p e)
 
 -- THE ENDS OF `put`: a sign with w code points, behind n elements
 module _ (t : List ℕ) (n l p w : ℕ) (width : w ≡ length (points l p)) where

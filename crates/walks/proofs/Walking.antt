@@ -24,11 +24,11 @@ use Rattle.signs.specs.Runs.{Quick}
 use Rattle.readings.specs.declared.Step.{Step}
 use Rattle.readings.specs.declared.Step.the-variants as step
 use Rattle.readings.proofs.Turning.{Turn, turn-of}
-use Rattle.reader.specs.Passes.{Wrote, mostPoints, addSigns, Starts, Leads, Runs, runs-on, Goes, goes-on, goes-nowhere}
-use Rattle.reader.specs.declared.Walked.{Walked}
-use Rattle.reader.specs.declared.Walked.the-variants.{On, Nowhere}
-use Rattle.reader.proofs.Points.{points-width}
-use Rattle.reader.proofs.Writing.{wrote-none, wrote-on}
+use Rattle.walks.specs.Walks.{Wrote, mostPoints, addSigns, Starts, Leads, Runs, runs-on, Goes, goes-on, goes-nowhere}
+use Rattle.walks.specs.declared.Walked.{Walked}
+use Rattle.walks.specs.declared.Walked.the-variants.{On, Nowhere}
+use Rattle.readings.proofs.Print.{points-width}
+use Rattle.walks.proofs.Writing.{wrote-none, wrote-on}
 
 -- SIGNS JOINED
 pub print-join : (ss xs : List Sign) → printOf (ss ++ xs) ≡ printOf ss ++ printOf xs

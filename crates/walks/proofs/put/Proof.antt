@@ -2,15 +2,15 @@
 use mathlib.Core.Path.{refl, ap}
 use Prim.Native.Nat.{ℕ, _+_}
 use native.Mathlib.Omega.{arith}
-use Rattle.reader.proofs.Points.{points-width}
-use Rattle.reader.proofs.Writing.{put-room, put-there, put-nowhere}
+use Rattle.readings.proofs.Print.{points-width}
+use Rattle.walks.proofs.Writing.{put-room, put-there, put-nowhere}
 use borrow.Author.Needs.{needs}
-use Rattle.reader.proofs.put.Statement.{statement}
-use Rattle.reader.proofs.put.Tie as tie
-use Rattle.reader.proofs.put.Reads as reads
-use Rattle.reader.proofs.put.Lts as lts
-use Rattle.reader.proofs.put_sign.Reads as put-sign-reads
-use Rattle.reader.proofs.width_of.Reads as width-of-reads
+use Rattle.walks.proofs.put.Statement.{statement}
+use Rattle.walks.proofs.put.Tie as tie
+use Rattle.walks.proofs.put.Reads as reads
+use Rattle.walks.proofs.put.Lts as lts
+use Rattle.walks.proofs.put_sign.Reads as put-sign-reads
+use Rattle.walks.proofs.width_of.Reads as width-of-reads
 
 width-of-requires : tie.Need-width-of-requires
 width-of-requires c κs = search needs

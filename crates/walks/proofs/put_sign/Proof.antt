@@ -1,12 +1,12 @@
 -- `put_sign`: one store where the lead is none, and else two, lay the sign's print (`put-one`, `put-two`). Assumes nothing.
 use native.Mathlib.Omega.{arith}
 use lib.ListN.{length-set}
-use Rattle.reader.proofs.Points.{put-one, put-two}
+use Rattle.walks.proofs.Writing.{put-one, put-two}
 use borrow.Author.Needs.{needs}
-use Rattle.reader.proofs.put_sign.Statement.{statement}
-use Rattle.reader.proofs.put_sign.Tie as tie
-use Rattle.reader.proofs.put_sign.Reads as reads
-use Rattle.reader.proofs.put_sign.Lts as lts
+use Rattle.walks.proofs.put_sign.Statement.{statement}
+use Rattle.walks.proofs.put_sign.Tie as tie
+use Rattle.walks.proofs.put_sign.Reads as reads
+use Rattle.walks.proofs.put_sign.Lts as lts
 
 slice-write-text : tie.Need-slice-write-text
 slice-write-text c =

@@ -1,11 +1,11 @@
 -- `width_of`: the print has one code point where the lead is none, and else two. Assumes nothing.
 use mathlib.Core.Path.{sym, ap}
 use lib.ListN.{length}
-use Rattle.reader.proofs.Points.{points-one, points-two}
-use Rattle.reader.proofs.width_of.Statement.{statement}
-use Rattle.reader.proofs.width_of.Tie as tie
-use Rattle.reader.proofs.width_of.Reads as reads
-use Rattle.reader.proofs.width_of.Lts as lts
+use Rattle.readings.proofs.Print.{points-one, points-two}
+use Rattle.walks.proofs.width_of.Statement.{statement}
+use Rattle.walks.proofs.width_of.Tie as tie
+use Rattle.walks.proofs.width_of.Reads as reads
+use Rattle.walks.proofs.width_of.Lts as lts
 
 returns : tie.Need-returns
 returns c = λ p. sym (ap length (points-one (c .before .args .lead) p (c .if1 .taken)))

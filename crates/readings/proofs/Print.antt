@@ -1,5 +1,5 @@
 -- The print of a sign, from the two numbers that the code has of it: one code point where the lead is 0, and else two. So the numbers are known by
--- the print (`points-inj`). Last, what each end of `put_sign` shows. Assumes nothing.
+-- the print (`points-inj`). Assumes nothing.
 use mathlib.Core.Path.{_≡_, refl, sym, ap, _∙_}
 use mathlib.Core.Bool.{Bool, true, false, cond}
 use mathlib.Core.List.{List, [], _∷_}
@@ -7,11 +7,9 @@ use mathlib.Core.Logic.{_⊎_, inl, inr}
 use Prim.Native.Nat.{ℕ, _≤_}
 use native.Mathlib.Omega.{arith}
 use lib.Dec.{eqb}
-use lib.ListN.{length, set}
+use lib.ListN.{length}
 use borrow.Author.Tests.{eq-eqb, ne-eqb, eqb-true, eqb-false}
-use Rattle.rows.specs.Laid.{laid}
-use Rattle.rows.proofs.Laid.{wrote-one, wrote-two}
 use Rattle.readings.specs.Print.{points}
 
 -- a lead of 0 is none
 pub known : (l : ℕ) → (l ≡ 0) ⊎ (l ≡ 0 → ⊥)
@@ -46,11 +44,3 @@ points-inj l p k q e = go (known l) (known k)
         let z : _≡_ {A = List ℕ} (l ∷ p ∷ []) (q ∷ []) = sym (points-two l p x) ∙ e ∙ points-one k q y in absurd (omega (arith, ap length z))
     go (inr x) (inr y) =
         let z : _≡_ {A = List ℕ} (l ∷ p ∷ []) (k ∷ q ∷ []) = sym (points-two l p x) ∙ e ∙ points-two k q y in (cc, cc)
-
--- the ends of `put_sign`
-module _ (l p : ℕ) (t : List ℕ) (room : length (points l p) ≤ length t) where
-  pub put-one : l ≡ 0 → (1 ≡ length (points l p)) × (set t 0 p ≡ laid (points l p) t)
-  put-one e = wrote-one (points l p) t room p (points-one l p e)
-
-  pub put-two : (l ≡ 0 → ⊥) → (2 ≡ length (points l p)) × (set (set t 0 l) 1 p ≡ laid (points l p) t)
-  put-two e = wrote-two (points l p) t room l p (points-two l p e)

@@ -6,12 +6,12 @@ use borrow.Author.Needs.{needs}
 use lib.ListN.{length}
 use Rattle.signs.specs.Runs.{noRun}
 use Rattle.readings.proofs.Turning.{Turn}
-use Rattle.reader.proofs.Walking.{Mid, mid-start, mid-most, mid-on, mid-runs, quick-turn}
-use Rattle.reader.proofs.run.Statement.{statement}
-use Rattle.reader.proofs.run.Tie as tie
-use Rattle.reader.proofs.run.Reads as reads
-use Rattle.reader.proofs.run.Lts as lts
-use Rattle.reader.proofs.put.Reads as put-reads
+use Rattle.walks.proofs.Walking.{Mid, mid-start, mid-most, mid-on, mid-runs, quick-turn}
+use Rattle.walks.proofs.run.Statement.{statement}
+use Rattle.walks.proofs.run.Tie as tie
+use Rattle.walks.proofs.run.Reads as reads
+use Rattle.walks.proofs.run.Lts as lts
+use Rattle.walks.proofs.put.Reads as put-reads
 use Rattle.signs.proofs.run_at.Reads as run-at-reads
 use Rattle.signs.proofs.run_of.Reads as run-of-reads
 

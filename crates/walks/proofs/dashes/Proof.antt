@@ -1,21 +1,21 @@
--- `capitals`: each sign is a turn of the walk, behind two capitals or more with their 46 (`Mid`). The measure is what is left of the row. Assumes nothing.
+-- `dashes`: each sign is a turn of the walk, behind U+2014 (`Mid`). The measure is what is left of the row. Assumes nothing.
 use mathlib.Core.List.{List}
 use Prim.Native.Nat.{ℕ, _-_, _<_}
 use native.Mathlib.Omega.{arith}
 use borrow.Author.Needs.{needs}
 use lib.ListN.{length}
-use Rattle.readings.specs.Modes.{owing}
+use Rattle.readings.specs.Modes.{dash}
 use Rattle.readings.proofs.Turning.{Turn}
-use Rattle.reader.proofs.Walking.{Mid, mid-start, mid-most, mid-on, mid-runs, quick-turn}
-use Rattle.reader.proofs.capitals.Statement.{statement}
-use Rattle.reader.proofs.capitals.Tie as tie
-use Rattle.reader.proofs.capitals.Reads as reads
-use Rattle.reader.proofs.capitals.Lts as lts
-use Rattle.reader.proofs.put.Reads as put-reads
-use Rattle.signs.proofs.owed_at.Reads as owed-at-reads
+use Rattle.walks.proofs.Walking.{Mid, mid-start, mid-most, mid-on, mid-runs, quick-turn}
+use Rattle.walks.proofs.dashes.Statement.{statement}
+use Rattle.walks.proofs.dashes.Tie as tie
+use Rattle.walks.proofs.dashes.Reads as reads
+use Rattle.walks.proofs.dashes.Lts as lts
+use Rattle.walks.proofs.put.Reads as put-reads
+use Rattle.signs.proofs.dash_at.Reads as dash-at-reads
 
 abbrev Inv-loop : tie.InvT-loop
-Inv-loop row from stop unclosed text₀ counted at₀ count₀ text at count = Mid row stop from owing unclosed counted text₀ text owing unclosed count at
+Inv-loop row from stop unclosed text₀ counted at₀ count₀ text at count = Mid row stop from dash unclosed counted text₀ text dash unclosed count at
 
 abbrev μ-loop : tie.MeasureT-loop
 μ-loop row from stop unclosed text₀ counted at₀ count₀ text at count = length row - at
@@ -40,19 +40,19 @@ abbrev in-k : K → I
 in-k k = k .before .before .before .before
 
 turn : (k : K) → let i = in-k k in
-    Turn (row i) (i .before .loop .at) owing (start i .args .unclosed) (k .before .lead .given .0 .0) (k .before .lead .given .0 .1 .0) (k .before .lead .given .0 .1 .1 .0) owing (start i .args .unclosed)
+    Turn (row i) (i .before .loop .at) dash (start i .args .unclosed) (k .before .lead .given .0 .0) (k .before .lead .given .0 .1 .0) (k .before .lead .given .0 .1 .1 .0) dash (start i .args .unclosed)
 turn k =
     let i = in-k k in
-    quick-turn (row i) (i .before .loop .at) owing (start i .args .unclosed) (inside i) (i .before .loop .inv .leads .mode) (i .before .loop .inv .leads .opens) _
-    (k .before .before .before .owed-at .ensures) _ _ _ _ _ (k .before .lead .given .1)
+    quick-turn (row i) (i .before .loop .at) dash (start i .args .unclosed) (inside i) (i .before .loop .inv .leads .mode) (i .before .loop .inv .leads .opens) _
+    (k .before .before .before .dash-at .ensures) _ _ _ _ _ (k .before .lead .given .1)
 
 loop-holds : tie.Need-loop-holds Inv-loop μ-loop
 loop-holds c =
     let s = c .before .before in
-    mid-start (s .args .row .now) (s .args .stop) (s .args .from) owing (s .args .unclosed) (s .args .counted) (s .args .text .now) (s .pre .1) (omega arith) (s .pre .3)
+    mid-start (s .args .row .now) (s .args .stop) (s .args .from) dash (s .args .unclosed) (s .args .counted) (s .args .text .now) (s .pre .1) (omega arith) (s .pre .3)
 
-owed-at-requires : tie.Need-owed-at-requires Inv-loop μ-loop
-owed-at-requires c κs = (start c .pre .0, inside c)
+dash-at-requires : tie.Need-dash-at-requires Inv-loop μ-loop
+dash-at-requires c κs = (start c .pre .0, inside c)
 
 enum-known-lead : tie.Need-enum-known-lead Inv-loop μ-loop
 enum-known-lead c = search needs
@@ -84,14 +84,14 @@ same-length-2 c = c .before .loop .inv .wrote .0
 returns-2 : tie.Need-returns-2 Inv-loop μ-loop
 returns-2 c = mid-runs (c .before .loop .inv)
 
-pub capitals-spec : {M : Type 1} → statement M
-capitals-spec =
+pub dashes-spec : {M : Type 1} → statement M
+dashes-spec =
     tie.close
     (tie.spec
     Inv-loop
     μ-loop
     loop-holds
-    owed-at-requires
+    dash-at-requires
     enum-known-lead
     enum-told
     same-length

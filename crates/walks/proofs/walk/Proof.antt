@@ -14,13 +14,13 @@ use Rattle.readings.specs.Left.{left}
 use Rattle.readings.specs.declared.Step.the-variants.{Nothing}
 use Rattle.signs.proofs.Cases.{word-there, as-usual, kind-known, no-cell}
 use Rattle.readings.proofs.Turning.{Turn, turn-of, none-left}
-use Rattle.reader.proofs.Walking.{Mid, mid-start, mid-few, mid-most, mid-on, mid-more, mid-nowhere, mid-end, runs-somewhere, runs-forward}
-use Rattle.reader.proofs.walk.Statement.{statement}
-use Rattle.reader.proofs.walk.Tie as tie
-use Rattle.reader.proofs.walk.Reads as reads
-use Rattle.reader.proofs.walk.Lts as lts
-use Rattle.reader.proofs.alike.Reads as alike-reads
-use Rattle.reader.proofs.put.Reads as put-reads
+use Rattle.walks.proofs.Walking.{Mid, mid-start, mid-few, mid-most, mid-on, mid-more, mid-nowhere, mid-end, runs-somewhere, runs-forward}
+use Rattle.walks.proofs.walk.Statement.{statement}
+use Rattle.walks.proofs.walk.Tie as tie
+use Rattle.walks.proofs.walk.Reads as reads
+use Rattle.walks.proofs.walk.Lts as lts
+use Rattle.walks.proofs.alike.Reads as alike-reads
+use Rattle.walks.proofs.put.Reads as put-reads
 use Rattle.signs.proofs.is_usual.Reads as is-usual-reads
 use Rattle.signs.proofs.sign_at.Reads as sign-at-reads
 use Rattle.signs.proofs.usual.Reads as usual-reads

@@ -1,13 +1,13 @@
 -- `alike`: by the mode, one of the three loops; or none. Assumes nothing.
-use Rattle.reader.proofs.Walking.{mid-start, mid-runs, runs-from}
+use Rattle.walks.proofs.Walking.{mid-start, mid-runs, runs-from}
 use borrow.Author.Needs.{needs}
-use Rattle.reader.proofs.alike.Statement.{statement}
-use Rattle.reader.proofs.alike.Tie as tie
-use Rattle.reader.proofs.alike.Reads as reads
-use Rattle.reader.proofs.alike.Lts as lts
-use Rattle.reader.proofs.capitals.Reads as capitals-reads
-use Rattle.reader.proofs.dashes.Reads as dashes-reads
-use Rattle.reader.proofs.run.Reads as run-reads
+use Rattle.walks.proofs.alike.Statement.{statement}
+use Rattle.walks.proofs.alike.Tie as tie
+use Rattle.walks.proofs.alike.Reads as reads
+use Rattle.walks.proofs.alike.Lts as lts
+use Rattle.walks.proofs.capitals.Reads as capitals-reads
+use Rattle.walks.proofs.dashes.Reads as dashes-reads
+use Rattle.walks.proofs.run.Reads as run-reads
 use Rattle.signs.proofs.run_of.Reads as run-of-reads
 
 dashes-requires : tie.Need-dashes-requires
