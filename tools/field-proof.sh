@@ -1,5 +1,5 @@
 #!/bin/sh
-# Prints the proof of a look-up of one field of the cells, crates/signs/proofs/cells/FUNCTION/Proof.antt: field-proof.sh
+# Prints the proof of a look-up of one field of the cells, crates/readings/proofs/cells/FUNCTION/Proof.antt: field-proof.sh
 # FUNCTION FIELD COLUMN PRINTER [ONLY]. Its keys are the cells that have something in that column of tools/cell-list.awk (and
 # in the column ONLY too); one need for each, and one for all others. PRINTER is the script that runs this one.
 #
@@ -23,11 +23,11 @@ cat <<TEXT
 use mathlib.Core.Path.{_≡_, refl, sym, ap}
 use mathlib.Core.List.{List, [], _∷_}
 use Prim.Native.Nat.{ℕ}
-use Rattle.signs.specs.Fields.{$field}
-use Rattle.signs.specs.Words.{words, wordOf}
-use Rattle.signs.proofs.Cases.{no-field}
-use Rattle.signs.proofs.cells.$function.Statement.{statement}
-use Rattle.signs.proofs.cells.$function.Tie as tie
+use Rattle.readings.specs.Fields.{$field}
+use Rattle.readings.specs.Words.{words, wordOf}
+use Rattle.readings.proofs.Words.{no-field}
+use Rattle.readings.proofs.cells.$function.Statement.{statement}
+use Rattle.readings.proofs.cells.$function.Tie as tie
 
 keys : List ℕ
 TEXT

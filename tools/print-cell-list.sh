@@ -1,5 +1,5 @@
 #!/bin/sh
-# prints: crates/signs/specs/Words.antt
+# prints: crates/readings/specs/Words.antt
 #
 # The word of each cell, and the signs of two cells, as lists which the specifications speak of. They are read from the
 # definitions (tools/sign-list.awk, tools/cell-list.awk). Classes have the names that they have in tools/readings.txt, in
@@ -39,8 +39,8 @@ use mathlib.Core.List.{List, [], _∷_}
 use lib.ListN.{getD}
 use Rattle.rules.specs.Cells.{dots}
 use Rattle.entries.specs.Chosen.{choose}
-use Rattle.signs.specs.Modes.{$modes}
-use Rattle.signs.specs.Fields.{$classes, usualAt, pointAt, capitalAt, figureAt, lowerAt, kindAt, classAt, thenAt}
+use Rattle.readings.specs.Modes.{$modes}
+use Rattle.readings.specs.Fields.{$classes, usualAt, pointAt, capitalAt, figureAt, lowerAt, kindAt, classAt, thenAt}
 
 -- WHAT A CLASS IS: its number, the mode after it where it is read as usual, and the modes in which it is
 TEXT

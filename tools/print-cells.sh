@@ -1,5 +1,5 @@
 #!/bin/sh
-# prints: crates/signs/src/cells.rt
+# prints: crates/readings/src/cells.rt
 #
 # The cells as code: the word of each by its fields, and the signs of two cells. They are read from the definitions
 # (tools/sign-list.awk, tools/cell-list.awk), so a new sign is a line of crates/rules/specs/Castilian.antt; the modes in which
@@ -31,8 +31,8 @@ TEXT
 
 cat <<'TEXT'
 ghost use mathlib.Core.Path.{_≡_};
-ghost use Rattle.signs.specs.Fields.{capitalIn, figureIn, lowerIn, letterIn, runIn};
-ghost use Rattle.signs.specs.Words.{wordOf, twoOf};
+ghost use Rattle.readings.specs.Fields.{capitalIn, figureIn, lowerIn, letterIn, runIn};
+ghost use Rattle.readings.specs.Words.{wordOf, twoOf};
 
 // The cells, by their dots.
 TEXT

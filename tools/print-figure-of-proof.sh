@@ -1,5 +1,5 @@
 #!/bin/sh
-# prints: crates/signs/proofs/cells/figure_of/Proof.antt
+# prints: crates/readings/proofs/cells/figure_of/Proof.antt
 #
-# The proof of the look-up figure_of of crates/signs/src/cells.rt.
+# The proof of the look-up figure_of of crates/readings/src/cells.rt.
 exec "$(dirname "$0")/field-proof.sh" figure_of figureIn 6 print-figure-of-proof.sh

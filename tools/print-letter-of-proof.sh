@@ -1,5 +1,5 @@
 #!/bin/sh
-# prints: crates/signs/proofs/cells/letter_of/Proof.antt
+# prints: crates/readings/proofs/cells/letter_of/Proof.antt
 #
-# The proof of the look-up letter_of of crates/signs/src/cells.rt.
+# The proof of the look-up letter_of of crates/readings/src/cells.rt.
 exec "$(dirname "$0")/field-proof.sh" letter_of letterIn 4 print-letter-of-proof.sh 6

@@ -1,5 +1,5 @@
 #!/bin/sh
-# prints: crates/signs/proofs/cells/lower_of/Proof.antt
+# prints: crates/readings/proofs/cells/lower_of/Proof.antt
 #
-# The proof of the look-up lower_of of crates/signs/src/cells.rt.
+# The proof of the look-up lower_of of crates/readings/src/cells.rt.
 exec "$(dirname "$0")/field-proof.sh" lower_of lowerIn 7 print-lower-of-proof.sh

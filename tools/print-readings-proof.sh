@@ -1,5 +1,5 @@
 #!/bin/sh
-# prints: crates/signs/proofs/table/deed_at/Proof.antt
+# prints: crates/readings/proofs/table/deed_at/Proof.antt
 #
 # The proof that what tools/readings.txt says is the same as code and as a list.
-exec "$(dirname "$0")/deed-proof.sh" signs tools/readings.txt print-readings-proof.sh
+exec "$(dirname "$0")/deed-proof.sh" readings tools/readings.txt print-readings-proof.sh

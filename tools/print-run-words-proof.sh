@@ -1,5 +1,5 @@
 #!/bin/sh
-# prints: crates/signs/proofs/cells/run_word/Proof.antt
+# prints: crates/readings/proofs/cells/run_word/Proof.antt
 #
 # The proof that the code's word of each cell for runs is what its word says: one need for each cell, and one for a byte that is
 # none. It depends on there being 64 cells and on nothing else.
@@ -14,11 +14,11 @@ cat <<'TEXT'
 use mathlib.Core.Path.{_≡_, refl, sym, ap, _∙_}
 use Prim.Native.Nat.{ℕ}
 use Rattle.entries.proofs.Places.{upto}
-use Rattle.signs.specs.Fields.{runIn}
-use Rattle.signs.specs.Words.{words, wordOf}
-use Rattle.signs.proofs.Cases.{no-word}
-use Rattle.signs.proofs.cells.run_word.Statement.{statement}
-use Rattle.signs.proofs.cells.run_word.Tie as tie
+use Rattle.readings.specs.Fields.{runIn}
+use Rattle.readings.specs.Words.{words, wordOf}
+use Rattle.readings.proofs.Words.{no-word}
+use Rattle.readings.proofs.cells.run_word.Statement.{statement}
+use Rattle.readings.proofs.cells.run_word.Tie as tie
 
 other : tie.Need-returns-65
 unfolding upto

@@ -1,5 +1,5 @@
 #!/bin/sh
-# prints: crates/signs/proofs/cells/two_cells/Proof.antt
+# prints: crates/readings/proofs/cells/two_cells/Proof.antt
 #
 # The proof that the code's signs of two cells are the list's of the specifications: one need for each, and one for all other
 # pairs of cells. It depends on how many there are (tools/sign-list.awk, tools/cell-list.awk) and on nothing else.
@@ -22,12 +22,12 @@ use Prim.Native.Nat.{ℕ}
 use Rattle.rules.specs.Cells.{dots}
 use Rattle.entries.specs.Chosen.{choose}
 use Rattle.entries.proofs.Keys.{chosen-rest}
-use Rattle.signs.specs.Words.{paired, twoCells}
+use Rattle.readings.specs.Words.{paired, twoCells}
 use borrow.Author.Needs.{needs}
-use Rattle.signs.proofs.cells.two_cells.Statement.{statement}
-use Rattle.signs.proofs.cells.two_cells.Tie as tie
-use Rattle.signs.proofs.cells.two_cells.Reads as reads
-use Rattle.signs.proofs.cells.two_cells.Lts as lts
+use Rattle.readings.proofs.cells.two_cells.Statement.{statement}
+use Rattle.readings.proofs.cells.two_cells.Tie as tie
+use Rattle.readings.proofs.cells.two_cells.Reads as reads
+use Rattle.readings.proofs.cells.two_cells.Lts as lts
 
 mul-match : tie.Need-mul-match
 mul-match c = search needs

@@ -1,5 +1,5 @@
 #!/bin/sh
-# prints: crates/signs/proofs/cells/word_of/Proof.antt
+# prints: crates/readings/proofs/cells/word_of/Proof.antt
 #
 # The proof that the code's word of each cell is the list's of the specifications: one need for each cell, and one for a byte
 # that is none. It depends on there being 64 cells and on nothing else.
@@ -13,10 +13,10 @@ cat <<'TEXT'
 -- `cells::word_of`: at each cell antt computes both sides; a byte that is no cell has no word. Assumes nothing.
 use mathlib.Core.Path.{_≡_, sym, ap}
 use Rattle.entries.proofs.Places.{upto}
-use Rattle.signs.specs.Words.{words, wordOf}
-use Rattle.signs.proofs.Cases.{no-word}
-use Rattle.signs.proofs.cells.word_of.Statement.{statement}
-use Rattle.signs.proofs.cells.word_of.Tie as tie
+use Rattle.readings.specs.Words.{words, wordOf}
+use Rattle.readings.proofs.Words.{no-word}
+use Rattle.readings.proofs.cells.word_of.Statement.{statement}
+use Rattle.readings.proofs.cells.word_of.Tie as tie
 
 other : tie.Need-returns-65
 unfolding upto

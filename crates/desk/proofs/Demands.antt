@@ -17,7 +17,7 @@ use Rattle.rules.proofs.Demands as demands
 use Rattle.rules.proofs.Castilian.{sane}
 use Rattle.rows.proofs.Laid.{front}
 use Rattle.rows.specs.Laid.{laid}
-use Rattle.signs.specs.Print.{points}
+use Rattle.readings.specs.Print.{points}
 use Rattle.transcriber.specs.declared.Answer as print
 use Rattle.transcriber.specs.declared.Answer.the-variants as prints
 use Rattle.transcriber.specs.Promise as transcribing

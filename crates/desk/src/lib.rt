@@ -1,5 +1,5 @@
 // The boundary: what C and Rust link (include/omdurgash.h). Numbers and slices only; each function is thin over a proved one.
-use signs::NO_POINT;
+use readings::NO_POINT;
 use transcriber::Answer;
 ghost use mathlib.Core.Path.{_≡_};
 ghost use Rattle.rules.specs.Castilian.{castilian};

@@ -19,7 +19,7 @@ use Rattle.rules.specs.Screen.{shows, stays, Stepped, stepped, stayed}
 use Rattle.reader.specs.declared.Answer.{Answer}
 use Rattle.reader.specs.declared.Shown as step
 use Rattle.reader.specs.Promise.{refusalOf, numbersOf, Shows, sign-there, no-sign-there, row-refused}
-use Rattle.reader.proofs.Points.{known}
+use Rattle.readings.proofs.Print.{known}
 use Rattle.desk.specs.declared.Sign as desk
 use Rattle.desk.specs.Shows.{readOf, pointsOf, signOf, ShowsSign}
 use Rattle.utf8.specs.Encoding.{encodedOf}

@@ -17,8 +17,8 @@ use Rattle.rules.specs.Castilian.{castilian}
 use Rattle.rules.proofs.Signs.{cells-of-text}
 use Rattle.rules.proofs.Castilian.{sane}
 use Rattle.rows.specs.Laid.{laid}
-use Rattle.signs.specs.Left.{left}
-use Rattle.signs.specs.Print.{points}
+use Rattle.readings.specs.Left.{left}
+use Rattle.readings.specs.Print.{points}
 use Rattle.reader.specs.Promise.{Read, done, refused, Shows, sign-there, no-sign-there, row-refused}
 use Rattle.reader.specs.Passes.{FirstHigh, RefusesRow}
 use Rattle.reader.specs.declared.Answer.{Answer}

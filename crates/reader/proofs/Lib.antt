@@ -1,6 +1,3 @@
-pub mod Points
-pub mod Writing
-pub mod Walking
 pub mod Whole
 pub mod Parts
 pub mod Answering

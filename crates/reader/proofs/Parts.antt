@@ -15,15 +15,15 @@ use Rattle.rules.specs.Screen.{signAt}
 use Rattle.rules.proofs.Finite.{nothing}
 use Rattle.rules.proofs.Machine.{at-rest}
 use Rattle.rows.specs.Laid.{laid}
-use Rattle.signs.specs.Modes.{modeOf}
-use Rattle.signs.specs.Left.{left}
-use Rattle.signs.specs.Print.{points}
-use Rattle.signs.proofs.Turning.{end-left}
-use Rattle.reader.specs.Passes.{Wrote, addSigns, CodedSign, Starts, Leads, Goes, goes-on, goes-nowhere}
-use Rattle.reader.specs.declared.Walked.{Walked}
-use Rattle.reader.specs.declared.Walked.the-variants.{On, Nowhere}
-use Rattle.reader.proofs.Points.{known, points-one, points-two}
-use Rattle.reader.proofs.Walking.{adds-some, adds-none, print-join, leads-few, sign-first, sign-behind, sign-over, sign-none, starts-nowhere, starts-once}
+use Rattle.readings.specs.Modes.{modeOf}
+use Rattle.readings.specs.Left.{left}
+use Rattle.readings.specs.Print.{points}
+use Rattle.readings.proofs.Turning.{end-left}
+use Rattle.walks.specs.Walks.{Wrote, addSigns, CodedSign, Starts, Leads, Goes, goes-on, goes-nowhere}
+use Rattle.walks.specs.declared.Walked.{Walked}
+use Rattle.walks.specs.declared.Walked.the-variants.{On, Nowhere}
+use Rattle.readings.proofs.Print.{known, points-one, points-two}
+use Rattle.walks.proofs.Walking.{adds-some, adds-none, print-join, leads-few, sign-first, sign-behind, sign-over, sign-none, starts-nowhere, starts-once}
 use Rattle.reader.proofs.Whole.{Told}
 
 -- tests the other way round

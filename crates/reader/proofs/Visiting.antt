@@ -22,12 +22,12 @@ use Rattle.rules.proofs.Pieces.{Piece, sign-of}
 use Rattle.rules.proofs.Profile.{Sane, OfText, of-text, pieces-of}
 use Rattle.rules.proofs.Signs.{signs-join, filled-signs}
 use Rattle.rules.proofs.Steps.{walks, joined-signs}
-use Rattle.signs.specs.Print.{points}
+use Rattle.readings.specs.Print.{points}
 use Rattle.reader.specs.Promise.{Shows, sign-there, no-sign-there}
 use Rattle.reader.specs.Claims.{StillExactly, Visits, printBy, WalkShowsText}
-use Rattle.reader.specs.Passes.{CodedSign}
+use Rattle.walks.specs.Walks.{CodedSign}
 use Rattle.reader.specs.declared.Shown.the-variants.{Still}
-use Rattle.reader.proofs.Points.{points-width}
+use Rattle.readings.proofs.Print.{points-width}
 
 pub shows-same : (x y : screen.Shown) → shows x ≡ shows y → x ≡ y
 shows-same x y e = cc

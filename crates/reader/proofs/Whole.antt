@@ -23,7 +23,7 @@ use Rattle.rules.proofs.Profile.{Sane, shut, print-of, printed, decode, pieces-
 use Rattle.rules.proofs.Signs.{signs-join, cell-for-each-sign}
 use Rattle.rules.proofs.Castilian.{sane}
 use Rattle.pairs.proofs.Pairing.{none-open}
-use Rattle.signs.specs.Left.{signsBy, left}
+use Rattle.readings.specs.Left.{signsBy, left}
 
 module _ (tb : Table) (held : Sane tb) (r : Row) where
   abbrev pub piecesIn : Option (List Piece)

@@ -13,7 +13,7 @@ use Rattle.rules.specs.Rows.{Reads, signsOf}
 use Rattle.rules.specs.Refusals.{Refusal}
 use Rattle.rules.specs.Answers.{ProperRow, ReadsAs}
 use Rattle.rules.specs.Screen.{signAt}
-use Rattle.signs.specs.Print.{points}
+use Rattle.readings.specs.Print.{points}
 use Rattle.reader.specs.declared.Answer.{Answer}
 use Rattle.reader.specs.declared.Answer.the-variants.{Done, NoText, NeedsRoom}
 use Rattle.reader.specs.declared.Shown.{Shown}

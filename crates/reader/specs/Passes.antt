@@ -1,25 +1,15 @@
--- What the inner functions promise. In order: the first byte that is no cell; why a row is refused; what is written to a lent
--- text; what a walk over a part of the row finds. A walk is told by the signs that the rules' own reader finds (`left` of the crate `signs`); only these
--- inner promises name it. Assumes nothing.
-use mathlib.Core.List.{List, [], _∷_, _++_}
-use mathlib.Core.Option.{Option, none, some}
+-- What the inner functions promise. In order: the first byte that is no cell; why a row is refused. What a walk over a part of the row finds is said in the
+-- crate `walks`. Assumes nothing.
+use mathlib.Core.Option.{some}
 use mathlib.Core.Path.{_≡_}
-use Prim.Native.Nat.{ℕ, _+_, _*_, _≤_, _<_}
-use lib.ListN.{length, getD, take, drop}
-use Rattle.rules.specs.Cells.{Text, Row, lastCell}
+use Prim.Native.Nat.{ℕ, _≤_, _<_}
+use lib.ListN.{length, getD}
+use Rattle.rules.specs.Cells.{Row, lastCell}
 use Rattle.rules.specs.Sorts.{Table}
-use Rattle.rules.specs.Signs.{Sign, printOf, cellsOf}
-use Rattle.rules.specs.Refusals.{Refusal, longestRow}
+use Rattle.rules.specs.Refusals.{Refusal}
 use Rattle.rules.specs.Answers.{RowRefused}
-use Rattle.pairs.specs.Opened.{openStates}
-use Rattle.rows.specs.Laid.{laid}
-use Rattle.signs.specs.Modes.{modeCount}
-use Rattle.signs.specs.Left.{left, addSign}
-use Rattle.signs.specs.Print.{points}
 use Rattle.reader.specs.Promise.{refusalOf}
 use Rattle.reader.specs.declared.Answer.{Answer}
-use Rattle.reader.specs.declared.Walked.{Walked}
-use Rattle.reader.specs.declared.Walked.the-variants.{On, Nowhere}
 
 -- "a byte above 63 in a row": "first such place", or the row's length
 pub record FirstHigh (r : Row) (n : ℕ) : Type 0 where
@@ -30,45 +20,3 @@ pub record FirstHigh (r : Row) (n : ℕ) : Type 0 where
 -- a refusal of the row, whatever the room
 abbrev pub RefusesRow : Table → Row → Answer → Type 0
 RefusesRow tb r a = (x : Refusal) × (refusalOf a ≡ some x) × RowRefused tb r x
-
--- WHAT IS WRITTEN: a print behind n elements, if there is room for it
-abbrev pub Wrote : List ℕ → List ℕ → ℕ → Text → Type 0
-Wrote t t' n p = (length t' ≡ length t) × (n + length p ≤ length t → t' ≡ take n t ++ laid p (drop n t))
-
--- more code points than a row has, whatever it is
-abbrev pub mostPoints : ℕ
-mostPoints = 2 * longestRow
-
--- THE SIGNS OF A PART of a row, in front of those that are left behind it
-abbrev pub addSigns : List Sign → Option (List Sign) → Option (List Sign)
-addSigns [] x = x
-addSigns (s ∷ ss) x = addSign s (addSigns ss x)
-
--- a sign is shown by two numbers: a code point, and one that goes before it, or 0
-abbrev pub CodedSign : Sign → Type 0
-CodedSign s = (l : ℕ) × (p : ℕ) × (s .shown ≡ points l p)
-
--- each starts before a place, the first of them at `at`, and has a cell
-abbrev pub Starts : ℕ → ℕ → List Sign → Type 0
-Starts stop at [] = Unit {0}
-Starts stop at (s ∷ ss) = (at < stop) × (1 ≤ length (s .taken)) × CodedSign s × Starts stop (at + length (s .taken)) ss
-
--- they lead from a place, a mode and the open pairs to others
-pub record Leads (row : Row) (stop at m o k n u : ℕ) (ss : List Sign) : Type 0 where
-  pub left-is : left m o (drop at row) ≡ addSigns ss (left n u (drop k row))
-  pub next-is : k ≡ at + length (cellsOf ss)
-  pub starts : Starts stop at ss
-  pub within : k ≤ length row
-  pub mode : n < modeCount
-  pub opens : u < openStates
-
--- WHAT IS READ where signs follow one another alike, behind n code points: so many as are read so
-pub data Runs (row : Row) (stop at m o n : ℕ) (t t' : List ℕ) : Walked → Type 0 where
-  runs-on : (ss : List Sign) (k m' u c : ℕ) → Leads row stop at m o k m' u ss → c ≡ n + length (printOf ss) → Wrote t t' n (printOf ss)
-      → Runs row stop at m o n t t' (On k m' u c)
-
--- WHAT A WALK FINDS over a part of the row, and what it writes
-pub data Goes (row : Row) (stop at m o : ℕ) (t t' : List ℕ) : Walked → Type 0 where
-  goes-on : (ss : List Sign) (k n u c : ℕ) → Leads row stop at m o k n u ss → stop ≤ k → c ≡ length (printOf ss) → Wrote t t' 0 (printOf ss)
-      → Goes row stop at m o t t' (On k n u c)
-  goes-nowhere : left m o (drop at row) ≡ none → length t' ≡ length t → Goes row stop at m o t t' Nowhere

@@ -12,7 +12,7 @@ use Rattle.rules.specs.Refusals.{Refusal, tooLong, needsRoom, notACell, noText,
 use Rattle.rules.specs.Answers.{gives, refuses, RowAnswer}
 use Rattle.rules.specs.Screen.{shows, stays, Stepped}
 use Rattle.rows.specs.Laid.{laid}
-use Rattle.signs.specs.Print.{points}
+use Rattle.readings.specs.Print.{points}
 use Rattle.reader.specs.declared.Answer.{Answer}
 use Rattle.reader.specs.declared.Answer.the-variants.{Done, TooLong, NotACell, NoText, NeedsRoom}
 use Rattle.reader.specs.declared.Shown.{Shown}

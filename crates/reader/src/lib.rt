@@ -1,18 +1,16 @@
 // Cells to print. `read` reads a whole row, `step` gives the sign at a place of one; what they promise is specs/Promise.antt.
-// One loop walks the row sign by sign. Between two signs it knows a mode and which pairs are open; both follow from the cells before, and neither is kept
+// One loop walks the row sign by sign (crates/walks). Between two signs it knows a mode and which pairs are open; both follow from the cells before, and neither is kept
 // from one call to the next. `read` walks twice: first without room, so that nothing is written before all is known to fit. `step` walks once, in three
 // parts: up to its place, over the sign there, and to the end.
-use signs::DASH;
-use signs::FREE;
+use readings::FREE;
+use readings::NO_POINT;
 use signs::LAST_CELL;
-use signs::NO_POINT;
-use signs::NO_RUN;
-use signs::OWING;
-use signs::Step;
+use walks::Walked;
+use walks::walk;
 ghost use mathlib.Core.Bool.{_&&_};
 ghost use mathlib.Core.Logic.{_⊎_};
 ghost use mathlib.Core.Path.{_≡_};
-ghost use Prim.Native.Nat.{ℕ, _+_, _*_, _≤_, _<_};
+ghost use Prim.Native.Nat.{ℕ, _+_, _≤_, _<_};
 ghost use lib.Dec.{eqb};
 ghost use lib.ListN.{length, getD};
 ghost use Rattle.rules.specs.Cells.{Text};
@@ -20,13 +18,9 @@ ghost use Rattle.rules.specs.Castilian.{castilian};
 ghost use Rattle.rules.specs.Rows.{Reads};
 ghost use Rattle.rules.specs.Refusals.{longestRow, reported};
 ghost use Rattle.rules.proofs.Machine.{at-rest};
-ghost use Rattle.pairs.specs.Opened.{openStates};
-ghost use Rattle.rows.specs.Laid.{laid};
-ghost use Rattle.signs.specs.Modes.{modeOf, modeCount, owing, dash};
-ghost use Rattle.signs.specs.Runs.{noRun, runOf};
-ghost use Rattle.signs.specs.Print.{points};
+ghost use Rattle.readings.specs.Modes.{modeOf, modeCount};
 ghost use Rattle.reader.specs.Promise.{Read, Shows};
-ghost use Rattle.reader.specs.Passes.{FirstHigh, RefusesRow, mostPoints, Wrote, Runs, Goes};
+ghost use Rattle.reader.specs.Passes.{FirstHigh, RefusesRow};
 
 // The answer to a row. `Done` has the count of code points written; any other is a refusal, and the lent text is then as it was. Paper 01's number and
 // second number for each are given by `Promise.refusalOf`.
@@ -40,18 +34,6 @@ pub enum Answer {
     NoText,
     // the text needs more room than lent: the room needed
     NeedsRoom(usize),
-}
-
-// What a walk over a part of the row finds: the place that it comes to, what the signs up to it leave (the mode and the open pairs), and how many code
-// points they have; or that no text has the row.
-pub enum Walked {
-    On {
-        at: usize,
-        mode: usize,
-        opened: usize,
-        count: usize,
-    },
-    Nowhere,
 }
 
 // What a step shows: the print of the sign that starts at the place, and the place after it (`lead` is NO_POINT where the sign has one code point); no code
@@ -74,275 +56,6 @@ fn reported_length(n: usize) -> usize
     ensures { λ r. ⌜ r ≡ reported n ⌝ }
 {
     if n <= MOST_REPORTED { n } else { MOST_REPORTED }
-}
-
-// How many code points a sign shows.
-fn width_of(lead: u32) -> usize
-    ensures { λ r. ⌜ ((point : ℕ) → r ≡ length (points lead point)) ⌝ }
-{
-    if lead == NO_POINT { 1 } else { 2 }
-}
-
-// Writes a sign's code points at the front of what it is lent.
-fn put_sign(text: &mut [u32], lead: u32, point: u32) -> usize
-    requires { ⌜ length (points lead point) ≤ length (now text) ⌝ }
-    ensures { λ r. ⌜ (r ≡ length (points lead point)) × (now (text .exit) ≡ laid (points lead point) (now (text .entry))) ⌝ }
-{
-    if lead == NO_POINT {
-        text[0] = point;
-        return 1;
-    }
-    text[0] = lead;
-    text[1] = point;
-    2
-}
-
-// Writes a sign's code points behind those that are counted, if there is room for them, and counts them.
-fn put(text: &mut [u32], count: usize, lead: u32, point: u32) -> usize
-    requires { ⌜ count ≤ mostPoints ⌝ }
-    ensures { λ r. ⌜ (r ≡ count + length (points lead point)) × Wrote (now (text .entry)) (now (text .exit)) count (points lead point) ⌝ }
-{
-    let next = count + width_of(lead);
-    if next <= text.len() {
-        put_sign(&mut text[count..], lead, point);
-    }
-    next
-}
-
-// U+2014 behind another: as many as follow, behind the code points that are counted. (This and the next two read what `walk` would, with less to ask at each
-// sign.)
-fn dashes(
-    row: &[u8],
-    from: usize,
-    stop: usize,
-    unclosed: usize,
-    text: &mut [u32],
-    counted: usize,
-) -> Walked
-    requires { ⌜ (length (now row) ≤ longestRow) × (from ≤ length (now row)) × (stop ≤ length (now row)) × (unclosed < openStates) × (counted ≤ 2 * from) ⌝ }
-    ensures { λ r. ⌜ Runs (now (row .entry)) stop from dash unclosed counted (now (text .entry)) (now (text .exit)) r ⌝ }
-{
-    let mut at: usize = from;
-    let mut count: usize = counted;
-    while at < stop {
-        let Step::Sign {
-            lead,
-            point,
-            next,
-            mode: _,
-            opened: _,
-        } = signs::dash_at(row, at, unclosed)
-        else {
-            return Walked::On {
-                at,
-                mode: DASH,
-                opened: unclosed,
-                count,
-            };
-        };
-        count = put(text, count, lead, point);
-        at = next;
-    }
-    Walked::On {
-        at,
-        mode: DASH,
-        opened: unclosed,
-        count,
-    }
-}
-
-// A capital with its 46 behind two such or more: as many as follow.
-fn capitals(
-    row: &[u8],
-    from: usize,
-    stop: usize,
-    unclosed: usize,
-    text: &mut [u32],
-    counted: usize,
-) -> Walked
-    requires { ⌜ (length (now row) ≤ longestRow) × (from ≤ length (now row)) × (stop ≤ length (now row)) × (unclosed < openStates) × (counted ≤ 2 * from) ⌝ }
-    ensures { λ r. ⌜ Runs (now (row .entry)) stop from owing unclosed counted (now (text .entry)) (now (text .exit)) r ⌝ }
-{
-    let mut at: usize = from;
-    let mut count: usize = counted;
-    while at < stop {
-        let Step::Sign {
-            lead,
-            point,
-            next,
-            mode: _,
-            opened: _,
-        } = signs::owed_at(row, at, unclosed)
-        else {
-            return Walked::On {
-                at,
-                mode: OWING,
-                opened: unclosed,
-                count,
-            };
-        };
-        count = put(text, count, lead, point);
-        at = next;
-    }
-    Walked::On {
-        at,
-        mode: OWING,
-        opened: unclosed,
-        count,
-    }
-}
-
-// The digits of a number, the letters of a run of capitals, lower digits: as many as follow.
-fn run(
-    row: &[u8],
-    from: usize,
-    stop: usize,
-    begun: usize,
-    unclosed: usize,
-    text: &mut [u32],
-    counted: usize,
-) -> Walked
-    requires { ⌜ (length (now row) ≤ longestRow) × (from ≤ length (now row)) × (stop ≤ length (now row)) × (begun < modeCount) × (unclosed < openStates) × (counted ≤ 2 * from) × (runOf begun < noRun) ⌝ }
-    ensures { λ r. ⌜ Runs (now (row .entry)) stop from begun unclosed counted (now (text .entry)) (now (text .exit)) r ⌝ }
-{
-    let field = signs::run_of(begun);
-    let mut at: usize = from;
-    let mut count: usize = counted;
-    while at < stop {
-        let Step::Sign {
-            lead,
-            point,
-            next,
-            mode: _,
-            opened: _,
-        } = signs::run_at(row, at, field, begun, unclosed)
-        else {
-            return Walked::On {
-                at,
-                mode: begun,
-                opened: unclosed,
-                count,
-            };
-        };
-        count = put(text, count, lead, point);
-        at = next;
-    }
-    Walked::On {
-        at,
-        mode: begun,
-        opened: unclosed,
-        count,
-    }
-}
-
-// What follows alike, by the mode that the last sign found and left.
-fn alike(
-    row: &[u8],
-    from: usize,
-    stop: usize,
-    begun: usize,
-    unclosed: usize,
-    text: &mut [u32],
-    counted: usize,
-) -> Walked
-    requires { ⌜ (length (now row) ≤ longestRow) × (from ≤ length (now row)) × (stop ≤ length (now row)) × (begun < modeCount) × (unclosed < openStates) × (counted ≤ 2 * from) ⌝ }
-    ensures { λ r. ⌜ Runs (now (row .entry)) stop from begun unclosed counted (now (text .entry)) (now (text .exit)) r ⌝ }
-{
-    if begun == DASH {
-        return dashes(row, from, stop, unclosed, text, counted);
-    }
-    if begun == OWING {
-        return capitals(row, from, stop, unclosed, text, counted);
-    }
-    if signs::run_of(begun) < NO_RUN {
-        return run(row, from, stop, begun, unclosed, text, counted);
-    }
-    Walked::On {
-        at: from,
-        mode: begun,
-        opened: unclosed,
-        count: counted,
-    }
-}
-
-// "each step gives the print of the next sign and the place after it." From a place, where a sign starts, with what the signs before it leave (`begun` is the
-// mode, `unclosed` are the open pairs), as long as the next sign starts before the place `stop`. Their print is written from the first element on, if there
-// is room. A sign that leaves the mode as it found it may be one of many: those that follow alike are read at once.
-fn walk(
-    row: &[u8],
-    from: usize,
-    stop: usize,
-    begun: usize,
-    unclosed: usize,
-    text: &mut [u32],
-) -> Walked
-    requires { ⌜ (length (now row) ≤ longestRow) × (from ≤ length (now row)) × (stop ≤ length (now row)) × (begun < modeCount) × (unclosed < openStates) ⌝ }
-    ensures { λ r. ⌜ Goes (now (row .entry)) stop from begun unclosed (now (text .entry)) (now (text .exit)) r ⌝ }
-{
-    let mut mode: usize = begun;
-    let mut opened: usize = unclosed;
-    let mut count: usize = 0;
-    let mut at: usize = from;
-    while at < stop {
-        let cell = row[at];
-        if LAST_CELL < cell {
-            return Walked::Nowhere;
-        }
-        let word = signs::word_of(cell);
-        if signs::is_usual(word, mode) {
-            let Step::Sign {
-                lead,
-                point,
-                next,
-                mode: mode_after,
-                opened: opened_after,
-            } = signs::usual(word, at, opened)
-            else {
-                return Walked::Nowhere;
-            };
-            count = put(text, count, lead, point);
-            mode = mode_after;
-            opened = opened_after;
-            at = next;
-        } else {
-            let Step::Sign {
-                lead,
-                point,
-                next,
-                mode: mode_after,
-                opened: opened_after,
-            } = signs::sign_at(row, at, word, mode, opened)
-            else {
-                return Walked::Nowhere;
-            };
-            count = put(text, count, lead, point);
-            if mode_after == mode {
-                let Walked::On {
-                    at: at_last,
-                    mode: mode_last,
-                    opened: opened_last,
-                    count: count_last,
-                } = alike(row, next, stop, mode_after, opened_after, text, count)
-                else {
-                    return Walked::Nowhere;
-                };
-                count = count_last;
-                mode = mode_last;
-                opened = opened_last;
-                at = at_last;
-            } else {
-                mode = mode_after;
-                opened = opened_after;
-                at = next;
-            }
-        }
-    }
-    Walked::On {
-        at,
-        mode,
-        opened,
-        count,
-    }
 }
 
 // May a text end here: is what was begun whole, and no pair open?

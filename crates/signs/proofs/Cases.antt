@@ -18,20 +18,20 @@ use Rattle.entries.specs.Chosen.{choose}
 use Rattle.entries.proofs.Keys.{among, Rest, keysOf, chosen-rest, rest-none}
 use Rattle.entries.proofs.Places.{upto, none-below}
 use Rattle.pairs.specs.Opened.{isOpen}
-use Rattle.signs.specs.Modes as mode
-use Rattle.signs.specs.Modes.{modeOf, modeCount}
-use Rattle.signs.specs.Acts as act
-use Rattle.signs.specs.Deeds.{deeds}
-use Rattle.signs.specs.Fields.{deedOf, classIn, pointIn, capitalIn, figureIn, lowerIn, letterIn, kindIn, thenIn, usualIn, runPoint, noCell, cellOf}
-use Rattle.signs.specs.Words.{words, wordOf, twoOf}
-use Rattle.signs.specs.Readings.{noPoint, Reading, reads, aMark, one, usualBy, onceList, digitCell, capitalModes, capitalLetter, capitalBy, numberBy, percentBy, innerQuotes, longerBy, prefixBy, askList, askedBy, readingOf, byWord, openerOf, closerOf, markStep, stepOf, stepAt}
-use Rattle.signs.specs.Readings as reading
+use Rattle.readings.specs.Modes as mode
+use Rattle.readings.specs.Modes.{modeOf, modeCount}
+use Rattle.readings.specs.Acts as act
+use Rattle.readings.specs.Deeds.{deeds}
+use Rattle.readings.specs.Fields.{deedOf, classIn, pointIn, capitalIn, figureIn, lowerIn, letterIn, kindIn, thenIn, usualIn, runPoint, noCell, cellOf}
+use Rattle.readings.specs.Words.{words, wordOf, twoOf}
+use Rattle.readings.specs.Readings.{noPoint, Reading, reads, aMark, one, usualBy, onceList, digitCell, capitalModes, capitalLetter, capitalBy, numberBy, percentBy, innerQuotes, longerBy, prefixBy, askList, askedBy, readingOf, byWord, openerOf, closerOf, markStep, stepOf, stepAt}
+use Rattle.readings.specs.Readings as reading
 use Rattle.signs.specs.Runs.{noRun, runOf}
-use Rattle.signs.specs.declared.Step.{Step}
-use Rattle.signs.specs.declared.Step.the-variants as variant
-use Rattle.signs.proofs.Settling.{is-true}
-use Rattle.signs.proofs.Tested.{sights}
-use Rattle.signs.proofs.Turning.{sight-small}
+use Rattle.readings.specs.declared.Step.{Step}
+use Rattle.readings.specs.declared.Step.the-variants as variant
+use Rattle.readings.proofs.Settling.{is-true}
+use Rattle.readings.proofs.Tested.{sights}
+use Rattle.readings.proofs.Turning.{sight-small}
 
 -- THE CELL AT A PLACE
 inside-any : (r : Row) (n : ℕ) (a b : ℕ) → n < length r → getD r n a ≡ getD r n b
@@ -61,25 +61,6 @@ module _ (r : Row) (n : ℕ) where
   word-there l =
       ⊎-elim (λ h. ap wordOf (cell-low l h))
       (λ h. List·getD-eq-default words 0 {n = getD r n 0} h ∙ ap wordOf (cell-high l h)) (le-or-lt (getD r n 0) lastCell)
-
--- a byte that is no cell has no word
-past-words : (c : ℕ) → noCell < suc c → wordOf c ≡ 0
-unfolding words
-past-words c l = List·getD-eq-default words 0 {n = c} (omega arith)
-
-pub no-word : (c : ℕ) → Rest Unit (upto noCell) c → 0 ≡ wordOf c
-no-word c r = sym (past-words c (omega (arith, none-below noCell c (rest-none Unit (upto noCell) c r .1))))
-
--- a field of a cell that is none of the keys: those that have it are all among them
-pub no-field : (g : ℕ → ℕ) → g 0 ≡ 0 → (ks : List ℕ) → T (below (λ c. among ks c || eqb (g (wordOf c)) 0) noCell) → (c : ℕ) → Rest Unit ks c
-    → 0 ≡ g (wordOf c)
-no-field g z ks t c r =
-    ⊎-elim (λ l. go (among ks c) (rest-none Unit ks c r .1) (at-below (λ c. among ks c || eqb (g (wordOf c)) 0) noCell t c l))
-    (λ l. sym (ap g (past-words c l) ∙ z)) (le-or-lt (suc c) noCell)
-  where
-    go : (b : Bool) → b ≡ false → T (b || eqb (g (wordOf c)) 0) → 0 ≡ g (wordOf c)
-    go true e t = absurd (subst T e tt)
-    go false e t = sym (eqb→eq (g (wordOf c)) 0 t)
 
 -- THE MODES AT REST
 abbrev pub owes : List ℕ

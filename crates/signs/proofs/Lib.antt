@@ -1,5 +1,1 @@
-pub mod Sight
-pub mod Settling
-pub mod Tested
-pub mod Turning
 pub mod Cases

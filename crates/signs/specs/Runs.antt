@@ -5,10 +5,10 @@ use mathlib.Core.Path.{_≡_}
 use Prim.Native.Nat.{ℕ}
 use Rattle.rules.specs.Cells.{Row}
 use Rattle.entries.specs.Chosen.{choose}
-use Rattle.signs.specs.Modes as mode
-use Rattle.signs.specs.Readings.{noPoint, stepAt}
-use Rattle.signs.specs.declared.Step.{Step}
-use Rattle.signs.specs.declared.Step.the-variants as step
+use Rattle.readings.specs.Modes as mode
+use Rattle.readings.specs.Readings.{noPoint, stepAt}
+use Rattle.readings.specs.declared.Step.{Step}
+use Rattle.readings.specs.declared.Step.the-variants as step
 
 -- where the field of a run stands: the digits of a number or a denominator, the letters of a run of capitals, lower digits
 abbrev pub figures : ℕ

@@ -1,15 +1,61 @@
 // The inner step of reading: the sign that starts at a place of a row, from the mode and the open pairs that the signs before it leave. Most cells are read
 // as usual (`usual`), as their small letter, their sign or their pair mark; where the mode asks for another reading (`sign_at`), the table says which
 // (tools/readings.txt). Signs that follow one another alike have quick readings besides (`run_at`, `dash_at`, `owed_at`).
-// A new sign is a line of crates/rules/specs/Castilian.antt, printed again; a new mode, deed or class is added in tools/readings.txt, and as a constant here
-// and in specs/; a new pair kind is also an arm of `opener_of` and of `closer_of`.
-use cells::D2;
-use cells::D6;
-use cells::D36;
-use cells::D46;
-use cells::D236;
-use cells::D356;
-use cells::D456;
+use readings::BEGINS_RUN;
+use readings::CAPITAL_OF_MANY;
+use readings::DASH;
+use readings::DASH_ONLY;
+use readings::DENOMINATOR;
+use readings::DIGIT;
+use readings::DIGIT_UNDER;
+use readings::END;
+use readings::FEM;
+use readings::FREE;
+use readings::GREATER_ONLY;
+use readings::HYPHEN;
+use readings::HYPHEN_OR_DASH;
+use readings::INNER_QUOTES;
+use readings::LONE;
+use readings::LOW;
+use readings::LOWER_DIGIT;
+use readings::MASCULINE_MARK;
+use readings::MID;
+use readings::MIXED;
+use readings::NO_POINT;
+use readings::NO_SIGN;
+use readings::NUM;
+use readings::NUMBER_SIGN;
+use readings::ONE_OR_FEMININE;
+use readings::OWED_CAPITAL;
+use readings::OWING;
+use readings::PERCENT;
+use readings::POINT;
+use readings::POINT_PLACES;
+use readings::RUN_GOES_ON;
+use readings::SEPARATES;
+use readings::Step;
+use readings::UNDER;
+use readings::UNDER1;
+use readings::WHOLE1;
+use readings::WHOLE2;
+use readings::capital_in;
+use readings::cells;
+use readings::cells::D2;
+use readings::cells::D6;
+use readings::cells::D36;
+use readings::cells::D46;
+use readings::cells::D236;
+use readings::cells::D356;
+use readings::cells::D456;
+use readings::class_in;
+use readings::closer_of;
+use readings::deed_of;
+use readings::figure_in;
+use readings::kind_in;
+use readings::lower_in;
+use readings::opener_of;
+use readings::point_in;
+use readings::then_in;
 ghost use mathlib.Core.Bool.{false};
 ghost use mathlib.Core.Path.{_≡_};
 ghost use Prim.Native.Nat.{ℕ, _+_, _<_, _≤_};
@@ -18,175 +64,16 @@ ghost use Rattle.rules.specs.Pairs.{kinds};
 ghost use Rattle.rules.specs.Refusals.{longestRow};
 ghost use Rattle.rules.proofs.Machine.{at-rest};
 ghost use Rattle.pairs.specs.Opened.{openStates};
-ghost use Rattle.signs.specs.Modes.{modeOf, modeCount, owing, dash};
-ghost use Rattle.signs.specs.Fields.{classIn, pointIn, capitalIn, figureIn, lowerIn, kindIn, thenIn, usualIn, deedOf, runPoint, cellOf};
+ghost use Rattle.readings.specs.Modes.{modeOf, modeCount, owing, dash};
+ghost use Rattle.readings.specs.Fields.{pointIn, kindIn, usualIn, runPoint, cellOf};
+ghost use Rattle.readings.specs.Words.{wordOf};
+ghost use Rattle.readings.specs.Readings.{noPoint, usualBy, markStep, digitCell, stepOf, capitalBy, numberBy, percentBy, prefixBy, askedBy, stepAt};
 ghost use Rattle.signs.specs.Runs.{noRun, runOf, Quick};
-ghost use Rattle.signs.specs.Words.{wordOf};
-ghost use Rattle.signs.specs.Readings.{noPoint, usualBy, openerOf, closerOf, markStep, digitCell, stepOf, capitalBy, numberBy, percentBy, prefixBy, askedBy, stepAt};
 
-mod cells;
-mod table;
-
-// What a step gives: the print of the sign (`lead` is a code point that has no cell and goes with it, or NO_POINT), the place after it, and what it
-// leaves: the mode and the open pairs. Or no sign that the rules allow starts there.
-pub enum Step {
-    Sign {
-        lead: u32,
-        point: u32,
-        next: usize,
-        mode: usize,
-        opened: usize,
-    },
-    Nothing,
-}
-
-// The modes: what the signs before a place leave (tools/readings.txt says what each is).
-pub const FREE: usize = 0;
-
-const LONE: usize = 1;
-
-pub const OWING: usize = 2;
-
-const MIXED: usize = 3;
-
-const WHOLE1: usize = 4;
-
-const WHOLE2: usize = 5;
-
-const NUM: usize = 6;
-
-const LOW: usize = 7;
-
-const UNDER1: usize = 8;
-
-const UNDER: usize = 9;
-
-const MID: usize = 10;
-
-const END: usize = 11;
-
-const HYPHEN: usize = 12;
-
-pub const DASH: usize = 13;
-
-const FEM: usize = 14;
-
-const PERCENT: usize = 15;
-
-// The classes of cells: all that the table asks of one.
-const NOTHING: u64 = 0;
-
-const LETTER_A: u64 = 1;
-
-const B_TO_J: u64 = 2;
-
-const LETTER_O: u64 = 3;
-
-const OTHER_LETTER: u64 = 4;
-
-const STOP: u64 = 5;
-
-const COMMA: u64 = 6;
-
-const SIGN_OR_LOW: u64 = 7;
-
-const MARK_OR_LOW: u64 = 8;
-
-const LOW_ONLY: u64 = 9;
-
-const SIGN: u64 = 10;
-
-const LINE: u64 = 11;
-
-const CAPITAL_SIGN: u64 = 12;
-
-const FIGURE_SIGN: u64 = 13;
-
-const SEPARATOR: u64 = 14;
-
-const PREFIX: u64 = 15;
-
-// The deeds that the cell alone decides.
-const NO_SIGN: usize = 0;
-
-const AS_USUAL: usize = 1;
-
-const DIGIT: usize = 2;
-
-const DIGIT_UNDER: usize = 3;
-
-const CAPITAL_OF_MANY: usize = 4;
-
-const LOWER_DIGIT: usize = 5;
-
-const DENOMINATOR: usize = 6;
-
-const MASCULINE_MARK: usize = 7;
-
-// The questions, which the cells that follow decide. Those from BEGINS_RUN on are about 46.
-const POINT: usize = 8;
-
-const ONE_OR_FEMININE: usize = 9;
-
-const HYPHEN_OR_DASH: usize = 10;
-
-const DASH_ONLY: usize = 11;
-
-const NUMBER_SIGN: usize = 12;
-
-const SEPARATES: usize = 13;
-
-const PREFIXED: usize = 14;
-
-const BEGINS_RUN: usize = 15;
-
-const RUN_GOES_ON: usize = 16;
-
-const SECOND_CAPITAL: usize = 17;
-
-const OWED_CAPITAL: usize = 18;
-
-const GREATER_ONLY: usize = 19;
-
-// The fields of a cell's word, from the lowest: where each stands, and how many values it has room for. What is asked of most cells is where the machine
-// finds it at once: the modes lowest, the mode after it highest.
-const USUAL_AT: u64 = 1;
-
-const MODE_PLACES: usize = 16;
-
+// How many bits a cell's word has.
 const WORD_BITS: usize = 64;
 
-const POINT_AT: u64 = 65536;
-
-const POINT_PLACES: u64 = 65536;
-
-const CAPITAL_AT: u64 = 4294967296;
-
-const CAPITAL_PLACES: u64 = 256;
-
-const FIGURE_AT: u64 = 1099511627776;
-
-const LOWER_AT: u64 = 70368744177664;
-
-const FIGURE_PLACES: u64 = 64;
-
-const KIND_AT: u64 = 4503599627370496;
-
-const KIND_PLACES: u64 = 16;
-
-const CLASS_AT: u64 = 72057594037927936;
-
-const CLASS_PLACES: u64 = 16;
-
-const THEN_AT: u64 = 1152921504606846976;
-
-// What a run asks of a cell: where its fields stand (cells.rt), and where the field of a run does; NO_RUN where the mode is in none.
-const RUN_FIGURE: u64 = 1;
-
-const RUN_CAPITAL: u64 = 65536;
-
-const RUN_LOWER: u64 = 4294967296;
-
+// Where the field of a run stands (readings/src/cells.rt); NO_RUN where the mode is in none.
 const FIGURES: usize = 0;
 
 const CAPITALS: usize = 16;
@@ -195,12 +82,7 @@ const LOWERS: usize = 32;
 
 pub const NO_RUN: usize = 64;
 
-// How many classes a row of the table has room for.
-const TABLE_ROW: usize = 16;
-
-// No code point; no cell: past the row's end, or where the byte is none.
-pub const NO_POINT: u32 = 0;
-
+// No cell: past the row's end, or where the byte is none.
 const NO_CELL: u8 = 64;
 
 // "Cells are bytes 0 to 63"
@@ -227,69 +109,11 @@ const THE_PERCENT: u32 = 0x25; // %
 
 const PER_MILLE: u32 = 0x2030; // ‰
 
-// The kind of ‘ and ’, whose cells are 6-236.
-const INNER_QUOTES: usize = 3;
-
-fn class_in(word: u64) -> usize
-    ensures { λ r. ⌜ r ≡ classIn word ⌝ }
-{
-    (word / CLASS_AT % CLASS_PLACES) as usize
-}
-
-// The small letter or the sign that the cell is alone.
-fn point_in(word: u64) -> u32
-    ensures { λ r. ⌜ r ≡ pointIn word ⌝ }
-{
-    (word / POINT_AT % POINT_PLACES) as u32
-}
-
-// Its capital, or NO_POINT where it is no letter.
-fn capital_in(word: u64) -> u32
-    ensures { λ r. ⌜ r ≡ capitalIn word ⌝ }
-{
-    (word / CAPITAL_AT % CAPITAL_PLACES) as u32
-}
-
-// Its digit, or NO_POINT where it has none.
-fn figure_in(word: u64) -> u32
-    ensures { λ r. ⌜ r ≡ figureIn word ⌝ }
-{
-    (word / FIGURE_AT % FIGURE_PLACES) as u32
-}
-
-// Its digit as a lower digit, or NO_POINT.
-fn lower_in(word: u64) -> u32
-    ensures { λ r. ⌜ r ≡ lowerIn word ⌝ }
-{
-    (word / LOWER_AT % FIGURE_PLACES) as u32
-}
-
-// The kind of a pair mark.
-fn kind_in(word: u64) -> usize
-    ensures { λ r. ⌜ r ≡ kindIn word ⌝ }
-{
-    (word / KIND_AT % KIND_PLACES) as usize
-}
-
-// The mode after it where it is read as usual.
-fn then_in(word: u64) -> usize
-    ensures { λ r. ⌜ r ≡ thenIn word ⌝ }
-{
-    (word / THEN_AT) as usize
-}
-
 // Is it read as usual in this mode? (A mode is below 16, so that the remainder is the mode.)
 pub fn is_usual(word: u64, mode: usize) -> bool
     ensures { λ r. ⌜ r ≡ usualIn word mode ⌝ }
 {
     (word >> (mode % WORD_BITS)) % 2 == 1
-}
-
-// What the table says of a mode and a class. (Both are below 16, so that the remainders are they.)
-fn deed_of(mode: usize, class: usize) -> usize
-    ensures { λ r. ⌜ r ≡ deedOf mode class ⌝ }
-{
-    table::deed_at(mode % MODE_PLACES * TABLE_ROW + class % TABLE_ROW)
 }
 
 // The cell at a place, and NO_CELL past the row's end or where the byte is no cell: no caller tests the length.
@@ -303,31 +127,6 @@ fn cell_at(row: &[u8], place: usize) -> u8
         }
     }
     NO_CELL
-}
-
-// The opener and the closer of a kind; the kinds have the numbers of the rules (crates/rules/specs/Pairs.antt).
-fn opener_of(kind: usize) -> u32
-    ensures { λ r. ⌜ r ≡ openerOf kind ⌝ }
-{
-    match kind {
-        0 => 0xbf, // ¿
-        1 => 0xa1, // ¡
-        2 => 0xab, // «
-        INNER_QUOTES => 0x2018, // ‘
-        _ => 0xe000, // emphasis opens
-    }
-}
-
-fn closer_of(kind: usize) -> u32
-    ensures { λ r. ⌜ r ≡ closerOf kind ⌝ }
-{
-    match kind {
-        0 => 0x3f, // ?
-        1 => 0x21, // !
-        2 => 0xbb, // »
-        INNER_QUOTES => 0x2019, // ’
-        _ => 0xe001, // emphasis closes
-    }
 }
 
 // A sign of one code point.

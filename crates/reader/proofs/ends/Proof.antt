@@ -6,7 +6,7 @@ use borrow.Author.Tests.{eq-eqb, ne-eqb}
 use lib.Dec.{eqb}
 use Rattle.rules.proofs.Finite.{and-false}
 use Rattle.rules.proofs.Machine.{at-rest}
-use Rattle.signs.specs.Modes.{modeOf}
+use Rattle.readings.specs.Modes.{modeOf}
 use Rattle.reader.proofs.ends.Statement.{statement}
 use Rattle.reader.proofs.ends.Tie as tie
 use Rattle.reader.proofs.ends.Reads as reads

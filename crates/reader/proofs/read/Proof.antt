@@ -7,7 +7,7 @@ use native.Mathlib.Omega.{arith}
 use lib.ListN.{length}
 use Rattle.rules.specs.Signs.{printOf}
 use Rattle.rows.specs.Laid.{laid}
-use Rattle.signs.specs.Left.{left}
+use Rattle.readings.specs.Left.{left}
 use Rattle.reader.proofs.Whole.{left-none, Told}
 use Rattle.reader.proofs.Parts.{not-so, so, Went, went, lost, nothing-back, not-to-end, told-whole, written-whole}
 use Rattle.reader.proofs.Answering.{row-long, row-long-text, read-cramped, read-done, read-refused}
@@ -19,7 +19,7 @@ use Rattle.reader.proofs.read.Lts as lts
 use Rattle.reader.proofs.ends.Reads as ends-reads
 use Rattle.reader.proofs.reported_length.Reads as reported-length-reads
 use Rattle.reader.proofs.unread.Reads as unread-reads
-use Rattle.reader.proofs.walk.Reads as walk-reads
+use Rattle.walks.proofs.walk.Reads as walk-reads
 
 abbrev row : tie.Start → List ℕ
 row s = s .args .row .now

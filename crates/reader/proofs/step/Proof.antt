@@ -10,11 +10,11 @@ use lib.Dec.{eqb}
 use lib.ListN.{length}
 use Rattle.rules.specs.Refusals.{longestRow}
 use Rattle.rules.proofs.Machine.{at-rest}
-use Rattle.signs.specs.Modes.{modeOf}
-use Rattle.signs.specs.Left.{left}
+use Rattle.readings.specs.Modes.{modeOf}
+use Rattle.readings.specs.Left.{left}
 use Rattle.reader.proofs.Whole.{left-none, Told}
 use Rattle.reader.proofs.Parts.{not-so, so, Went, went, lost, not-to-end, lost-behind, few-parts, told-parts, no-sign-seen, sign-seen, one-point, two-points}
-use Rattle.reader.proofs.Walking.{leads-nowhere}
+use Rattle.walks.proofs.Walking.{leads-nowhere}
 use Rattle.reader.proofs.Answering.{row-long, row-long-text, step-still, step-sign, step-refused}
 use borrow.Author.Needs.{needs}
 use Rattle.reader.proofs.step.Statement.{statement}
@@ -26,7 +26,7 @@ use Rattle.reader.proofs.reported_length.Reads as reported-length-reads
 use Rattle.reader.proofs.stop_before.Reads as stop-before-reads
 use Rattle.reader.proofs.stop_behind.Reads as stop-behind-reads
 use Rattle.reader.proofs.unread.Reads as unread-reads
-use Rattle.reader.proofs.walk.Reads as walk-reads
+use Rattle.walks.proofs.walk.Reads as walk-reads
 
 abbrev row : tie.Start → List ℕ
 row s = s .args .row .now

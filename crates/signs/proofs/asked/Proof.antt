@@ -2,8 +2,8 @@
 use mathlib.Core.Path.{_≡_, sym, ap, _∙_}
 use Prim.Native.Nat.{ℕ, _+_}
 use Rattle.rules.specs.Cells.{dots}
-use Rattle.signs.specs.Fields.{cellOf}
-use Rattle.signs.specs.Readings.{digitCell}
+use Rattle.readings.specs.Fields.{cellOf}
+use Rattle.readings.specs.Readings.{digitCell}
 use Rattle.signs.proofs.Cases.{point-inside, point-ends, one-under, feminine-mark, dash-here, hyphen-here, dash-again, half-dash, number-here, longer-here, capital-here}
 use borrow.Author.Needs.{needs}
 use Rattle.signs.proofs.asked.Statement.{statement}
@@ -14,7 +14,7 @@ use Rattle.signs.proofs.capital.Reads as capital-reads
 use Rattle.signs.proofs.cell_at.Reads as cell-at-reads
 use Rattle.signs.proofs.is_digit.Reads as is-digit-reads
 use Rattle.signs.proofs.number.Reads as number-reads
-use Rattle.signs.proofs.point_in.Reads as point-in-reads
+use Rattle.readings.proofs.point_in.Reads as point-in-reads
 use Rattle.signs.proofs.prefixed.Reads as prefixed-reads
 use Rattle.signs.proofs.sign.Reads as sign-reads
 

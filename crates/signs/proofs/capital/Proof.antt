@@ -2,8 +2,8 @@
 use mathlib.Core.Path.{_≡_, sym, ap, _∙_}
 use Prim.Native.Nat.{ℕ, _+_}
 use Rattle.rules.specs.Cells.{dots}
-use Rattle.signs.specs.Fields.{capitalIn, cellOf}
-use Rattle.signs.specs.Words.{wordOf}
+use Rattle.readings.specs.Fields.{capitalIn, cellOf}
+use Rattle.readings.specs.Words.{wordOf}
 use Rattle.signs.proofs.Cases.{run-none, run-first, run-barred, greater-owed, greater, letter-none, letter-begins, letter-mixed, letter-barred, letter-owes}
 use borrow.Author.Needs.{needs}
 use Rattle.signs.proofs.capital.Statement.{statement}
@@ -11,7 +11,7 @@ use Rattle.signs.proofs.capital.Tie as tie
 use Rattle.signs.proofs.capital.Reads as reads
 use Rattle.signs.proofs.capital.Lts as lts
 use Rattle.signs.proofs.cell_at.Reads as cell-at-reads
-use Rattle.signs.proofs.cells.capital_of.Reads as capital-of-reads
+use Rattle.readings.proofs.cells.capital_of.Reads as capital-of-reads
 use Rattle.signs.proofs.sign.Reads as sign-reads
 
 -- the second cell and the third

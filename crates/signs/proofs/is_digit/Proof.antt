@@ -6,7 +6,7 @@ use Rattle.signs.proofs.is_digit.Statement.{statement}
 use Rattle.signs.proofs.is_digit.Tie as tie
 use Rattle.signs.proofs.is_digit.Reads as reads
 use Rattle.signs.proofs.is_digit.Lts as lts
-use Rattle.signs.proofs.cells.figure_of.Reads as figure-of-reads
+use Rattle.readings.proofs.cells.figure_of.Reads as figure-of-reads
 
 figure-of-requires : tie.Need-figure-of-requires
 figure-of-requires c κs = search needs

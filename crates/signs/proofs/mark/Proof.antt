@@ -2,9 +2,9 @@
 use mathlib.Core.Path.{_≡_, sym, ap, _∙_}
 use Prim.Native.Nat.{ℕ}
 use Rattle.pairs.specs.Opened.{turnedBy}
-use Rattle.signs.specs.Modes.{free}
-use Rattle.signs.specs.Readings.{noPoint}
-use Rattle.signs.specs.declared.Step.the-variants as variant
+use Rattle.readings.specs.Modes.{free}
+use Rattle.readings.specs.Readings.{noPoint}
+use Rattle.readings.specs.declared.Step.the-variants as variant
 use Rattle.signs.proofs.Cases.{closes-it, opens-it}
 use borrow.Author.Needs.{needs}
 use Rattle.signs.proofs.mark.Statement.{statement}
@@ -13,8 +13,8 @@ use Rattle.signs.proofs.mark.Reads as reads
 use Rattle.signs.proofs.mark.Lts as lts
 use Rattle.pairs.proofs.is_open.Reads as is-open-reads
 use Rattle.pairs.proofs.turned.Reads as turned-reads
-use Rattle.signs.proofs.closer_of.Reads as closer-of-reads
-use Rattle.signs.proofs.opener_of.Reads as opener-of-reads
+use Rattle.readings.proofs.closer_of.Reads as closer-of-reads
+use Rattle.readings.proofs.opener_of.Reads as opener-of-reads
 use Rattle.signs.proofs.sign.Reads as sign-reads
 
 is-open-requires : tie.Need-is-open-requires

@@ -1,8 +1,8 @@
 -- `number`: a digit, a lower digit, or neither after 3456. Assumes nothing.
 use mathlib.Core.Path.{_≡_, sym, ap, _∙_}
 use Prim.Native.Nat.{ℕ, _+_}
-use Rattle.signs.specs.Fields.{figureIn, lowerIn, cellOf}
-use Rattle.signs.specs.Words.{wordOf}
+use Rattle.readings.specs.Fields.{figureIn, lowerIn, cellOf}
+use Rattle.readings.specs.Words.{wordOf}
 use Rattle.signs.proofs.Cases.{number-figure, number-lower, number-none}
 use borrow.Author.Needs.{needs}
 use Rattle.signs.proofs.number.Statement.{statement}
@@ -10,8 +10,8 @@ use Rattle.signs.proofs.number.Tie as tie
 use Rattle.signs.proofs.number.Reads as reads
 use Rattle.signs.proofs.number.Lts as lts
 use Rattle.signs.proofs.cell_at.Reads as cell-at-reads
-use Rattle.signs.proofs.cells.figure_of.Reads as figure-of-reads
-use Rattle.signs.proofs.cells.lower_of.Reads as lower-of-reads
+use Rattle.readings.proofs.cells.figure_of.Reads as figure-of-reads
+use Rattle.readings.proofs.cells.lower_of.Reads as lower-of-reads
 use Rattle.signs.proofs.sign.Reads as sign-reads
 
 -- once the digit of the second cell is known

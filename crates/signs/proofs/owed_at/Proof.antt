@@ -3,8 +3,8 @@ use mathlib.Core.Logic.{inl, inr}
 use mathlib.Core.Path.{_≡_, refl, sym, ap, _∙_}
 use Prim.Native.Nat.{ℕ, _+_}
 use Rattle.rules.specs.Cells.{dots}
-use Rattle.signs.specs.Fields.{capitalIn}
-use Rattle.signs.specs.Words.{wordOf}
+use Rattle.readings.specs.Fields.{capitalIn}
+use Rattle.readings.specs.Words.{wordOf}
 use Rattle.signs.proofs.Cases.{owed-step}
 use borrow.Author.Needs.{needs}
 use Rattle.signs.proofs.owed_at.Statement.{statement}
@@ -12,7 +12,7 @@ use Rattle.signs.proofs.owed_at.Tie as tie
 use Rattle.signs.proofs.owed_at.Reads as reads
 use Rattle.signs.proofs.owed_at.Lts as lts
 use Rattle.signs.proofs.cell_at.Reads as cell-at-reads
-use Rattle.signs.proofs.cells.capital_owed.Reads as capital-owed-reads
+use Rattle.readings.proofs.cells.capital_owed.Reads as capital-owed-reads
 use Rattle.signs.proofs.sign.Reads as sign-reads
 
 cell-at-requires : tie.Need-cell-at-requires

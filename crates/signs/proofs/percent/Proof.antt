@@ -2,7 +2,7 @@
 use mathlib.Core.Path.{_≡_, sym, ap, _∙_}
 use Prim.Native.Nat.{_+_}
 use Rattle.rules.specs.Cells.{dots}
-use Rattle.signs.specs.Fields.{cellOf}
+use Rattle.readings.specs.Fields.{cellOf}
 use Rattle.signs.proofs.Cases.{per-mille, percent-alone}
 use borrow.Author.Needs.{needs}
 use Rattle.signs.proofs.percent.Statement.{statement}

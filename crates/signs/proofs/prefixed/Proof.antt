@@ -5,9 +5,9 @@ use mathlib.Core.Logic.{⊎-elim}
 use Prim.Native.Nat.{ℕ, _+_}
 use lib.Dec.{eqb}
 use Rattle.rules.specs.Cells.{dots}
-use Rattle.signs.specs.Fields.{letterIn, cellOf}
-use Rattle.signs.specs.Words.{wordOf, twoOf}
-use Rattle.signs.specs.Readings.{digitCell}
+use Rattle.readings.specs.Fields.{letterIn, cellOf}
+use Rattle.readings.specs.Words.{wordOf, twoOf}
+use Rattle.readings.specs.Readings.{digitCell}
 use Rattle.signs.proofs.Cases.{separated-letter, Longer, no-digit, no-separator, is-percent, is-quote, two-none, two-sign, second-differs, first-differs}
 use borrow.Author.Needs.{needs}
 use Rattle.signs.proofs.prefixed.Statement.{statement}
@@ -15,8 +15,8 @@ use Rattle.signs.proofs.prefixed.Tie as tie
 use Rattle.signs.proofs.prefixed.Reads as reads
 use Rattle.signs.proofs.prefixed.Lts as lts
 use Rattle.signs.proofs.cell_at.Reads as cell-at-reads
-use Rattle.signs.proofs.cells.letter_of.Reads as letter-of-reads
-use Rattle.signs.proofs.cells.two_cells.Reads as two-cells-reads
+use Rattle.readings.proofs.cells.letter_of.Reads as letter-of-reads
+use Rattle.readings.proofs.cells.two_cells.Reads as two-cells-reads
 use Rattle.signs.proofs.is_digit.Reads as is-digit-reads
 use Rattle.signs.proofs.mark.Reads as mark-reads
 use Rattle.signs.proofs.percent.Reads as percent-reads

@@ -2,7 +2,7 @@
 use mathlib.Core.Path.{sym, ap}
 use Prim.Native.Nat.{ℕ}
 use Rattle.rules.proofs.Machine.{at-rest}
-use Rattle.signs.specs.Modes.{modeOf}
+use Rattle.readings.specs.Modes.{modeOf}
 use Rattle.signs.proofs.Cases.{at-rest-there}
 use Rattle.signs.proofs.rests.Statement.{statement}
 use Rattle.signs.proofs.rests.Tie as tie

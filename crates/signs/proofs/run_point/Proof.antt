@@ -6,7 +6,7 @@ use Rattle.signs.proofs.run_point.Statement.{statement}
 use Rattle.signs.proofs.run_point.Tie as tie
 use Rattle.signs.proofs.run_point.Reads as reads
 use Rattle.signs.proofs.run_point.Lts as lts
-use Rattle.signs.proofs.cells.run_word.Reads as run-word-reads
+use Rattle.readings.proofs.cells.run_word.Reads as run-word-reads
 
 run-word-requires : tie.Need-run-word-requires
 run-word-requires c κs = search needs

@@ -1,6 +1,6 @@
 -- `sign_at`: by the deed, or by what the cells that follow decide. Assumes nothing.
 use mathlib.Core.Path.{_≡_, ap, _∙_}
-use Rattle.signs.specs.Fields.{deedOf, classIn}
+use Rattle.readings.specs.Fields.{deedOf, classIn}
 use Rattle.signs.proofs.Cases.{told-none, told-digit, told-under, told-capital, told-lower, told-denominator, told-masculine, told-question}
 use borrow.Author.Needs.{needs}
 use Rattle.signs.proofs.sign_at.Statement.{statement}
@@ -8,11 +8,11 @@ use Rattle.signs.proofs.sign_at.Tie as tie
 use Rattle.signs.proofs.sign_at.Reads as reads
 use Rattle.signs.proofs.sign_at.Lts as lts
 use Rattle.signs.proofs.asked.Reads as asked-reads
-use Rattle.signs.proofs.capital_in.Reads as capital-in-reads
-use Rattle.signs.proofs.class_in.Reads as class-in-reads
-use Rattle.signs.proofs.deed_of.Reads as deed-of-reads
-use Rattle.signs.proofs.figure_in.Reads as figure-in-reads
-use Rattle.signs.proofs.lower_in.Reads as lower-in-reads
+use Rattle.readings.proofs.capital_in.Reads as capital-in-reads
+use Rattle.readings.proofs.class_in.Reads as class-in-reads
+use Rattle.readings.proofs.deed_of.Reads as deed-of-reads
+use Rattle.readings.proofs.figure_in.Reads as figure-in-reads
+use Rattle.readings.proofs.lower_in.Reads as lower-in-reads
 use Rattle.signs.proofs.sign.Reads as sign-reads
 
 -- once the deed is known

@@ -7,11 +7,11 @@ use Rattle.signs.proofs.usual.Statement.{statement}
 use Rattle.signs.proofs.usual.Tie as tie
 use Rattle.signs.proofs.usual.Reads as reads
 use Rattle.signs.proofs.usual.Lts as lts
-use Rattle.signs.proofs.kind_in.Reads as kind-in-reads
+use Rattle.readings.proofs.kind_in.Reads as kind-in-reads
 use Rattle.signs.proofs.mark.Reads as mark-reads
-use Rattle.signs.proofs.point_in.Reads as point-in-reads
+use Rattle.readings.proofs.point_in.Reads as point-in-reads
 use Rattle.signs.proofs.sign.Reads as sign-reads
-use Rattle.signs.proofs.then_in.Reads as then-in-reads
+use Rattle.readings.proofs.then_in.Reads as then-in-reads
 
 point-in-requires : tie.Need-point-in-requires
 point-in-requires c κs = search needs

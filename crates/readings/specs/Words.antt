@@ -1,0 +1,218 @@
+-- Printed by tools/print-cell-list.sh from crates/rules/specs/Castilian.antt and tools/readings.txt: change those, and print it again.
+-- The word of each cell by its fields, and the signs of two cells whose first is none by itself. That they are what the rules say is shown by computed tests
+-- (proofs/Tested.antt). Assumes nothing.
+use Prim.Native.Nat.{ℕ, _+_, _*_, _^_}
+use mathlib.Core.List.{List, [], _∷_}
+use lib.ListN.{getD}
+use Rattle.rules.specs.Cells.{dots}
+use Rattle.entries.specs.Chosen.{choose}
+use Rattle.readings.specs.Modes.{free, lone, owing, mixed, whole2, num, under, end, hyphen, dash, fem, percent}
+use Rattle.readings.specs.Fields.{bToJ, capitalSign, comma, figureSign, letterA, letterO, line, lowOnly, markOrLow, nothing, otherLetter, prefix, separator, sign, signOrLow, stop, usualAt, pointAt, capitalAt, figureAt, lowerAt, kindAt, classAt, thenAt}
+
+-- WHAT A CLASS IS: its number, the mode after it where it is read as usual, and the modes in which it is
+abbrev asLetterA : ℕ
+asLetterA =
+    classAt * letterA + thenAt * mixed
+    + usualAt * (2 ^ free + 2 ^ lone + 2 ^ owing + 2 ^ mixed + 2 ^ hyphen + 2 ^ dash + 2 ^ percent)
+
+abbrev asBToJ : ℕ
+asBToJ =
+    classAt * bToJ + thenAt * mixed
+    + usualAt * (2 ^ free + 2 ^ lone + 2 ^ owing + 2 ^ mixed + 2 ^ hyphen + 2 ^ dash + 2 ^ percent)
+
+abbrev asLetterO : ℕ
+asLetterO =
+    classAt * letterO + thenAt * mixed
+    + usualAt * (2 ^ free + 2 ^ lone + 2 ^ owing + 2 ^ mixed + 2 ^ num + 2 ^ under + 2 ^ end + 2 ^ hyphen + 2 ^ dash + 2 ^ fem + 2 ^ percent)
+
+abbrev asOtherLetter : ℕ
+asOtherLetter =
+    classAt * otherLetter + thenAt * mixed
+    + usualAt * (2 ^ free + 2 ^ lone + 2 ^ owing + 2 ^ mixed + 2 ^ num + 2 ^ under + 2 ^ end + 2 ^ hyphen + 2 ^ dash + 2 ^ fem + 2 ^ percent)
+
+abbrev asStop : ℕ
+asStop =
+    classAt * stop + thenAt * free
+    + usualAt * (2 ^ free + 2 ^ lone + 2 ^ mixed + 2 ^ whole2 + 2 ^ under + 2 ^ end + 2 ^ hyphen + 2 ^ dash + 2 ^ fem + 2 ^ percent)
+
+abbrev asComma : ℕ
+asComma =
+    classAt * comma + thenAt * free
+    + usualAt * (2 ^ free + 2 ^ lone + 2 ^ mixed + 2 ^ whole2 + 2 ^ under + 2 ^ end + 2 ^ hyphen + 2 ^ dash + 2 ^ fem + 2 ^ percent)
+
+abbrev asSignOrLow : ℕ
+asSignOrLow =
+    classAt * signOrLow + thenAt * free
+    + usualAt * (2 ^ free + 2 ^ lone + 2 ^ mixed + 2 ^ whole2 + 2 ^ num + 2 ^ under + 2 ^ end + 2 ^ hyphen + 2 ^ dash + 2 ^ fem + 2 ^ percent)
+
+abbrev asMarkOrLow : ℕ
+asMarkOrLow =
+    classAt * markOrLow + thenAt * free
+    + usualAt * (2 ^ free + 2 ^ lone + 2 ^ mixed + 2 ^ whole2 + 2 ^ num + 2 ^ under + 2 ^ end + 2 ^ hyphen + 2 ^ dash + 2 ^ fem + 2 ^ percent)
+
+abbrev asSign : ℕ
+asSign =
+    classAt * sign + thenAt * free
+    + usualAt * (2 ^ free + 2 ^ lone + 2 ^ mixed + 2 ^ whole2 + 2 ^ num + 2 ^ under + 2 ^ end + 2 ^ hyphen + 2 ^ dash + 2 ^ fem + 2 ^ percent)
+
+-- THE WORDS, in the order of the cells
+unfoldable pub words : List ℕ
+words =
+    -- 0: space
+    (asSign + pointAt * 0x20)
+    -- 1: 1 A a ª
+    ∷ (asLetterA + pointAt * 0x61 + capitalAt * 0x41 + figureAt * 0x31)
+    -- 2: , 1
+    ∷ (asComma + pointAt * 0x2c + lowerAt * 0x31)
+    -- 12: 2 B b
+    ∷ (asBToJ + pointAt * 0x62 + capitalAt * 0x42 + figureAt * 0x32)
+    -- 3: .
+    ∷ (asStop + pointAt * 0x2e)
+    -- 13: K k
+    ∷ (asOtherLetter + pointAt * 0x6b + capitalAt * 0x4b)
+    -- 23: 2 ;
+    ∷ (asSignOrLow + pointAt * 0x3b + lowerAt * 0x32)
+    -- 123: L l
+    ∷ (asOtherLetter + pointAt * 0x6c + capitalAt * 0x4c)
+    -- 4
+    ∷ nothing
+    -- 14: 3 C c
+    ∷ (asBToJ + pointAt * 0x63 + capitalAt * 0x43 + figureAt * 0x33)
+    -- 24: 9 I i
+    ∷ (asBToJ + pointAt * 0x69 + capitalAt * 0x49 + figureAt * 0x39)
+    -- 124: 6 F f
+    ∷ (asBToJ + pointAt * 0x66 + capitalAt * 0x46 + figureAt * 0x36)
+    -- 34: Í í
+    ∷ (asOtherLetter + pointAt * 0xed + capitalAt * 0xcd)
+    -- 134: M m
+    ∷ (asOtherLetter + pointAt * 0x6d + capitalAt * 0x4d)
+    -- 234: S s
+    ∷ (asOtherLetter + pointAt * 0x73 + capitalAt * 0x53)
+    -- 1234: P p
+    ∷ (asOtherLetter + pointAt * 0x70 + capitalAt * 0x50)
+    -- 5
+    ∷ (classAt * separator)
+    -- 15: 5 E e
+    ∷ (asBToJ + pointAt * 0x65 + capitalAt * 0x45 + figureAt * 0x35)
+    -- 25: 3 :
+    ∷ (asSignOrLow + pointAt * 0x3a + lowerAt * 0x33)
+    -- 125: 8 H h
+    ∷ (asBToJ + pointAt * 0x68 + capitalAt * 0x48 + figureAt * 0x38)
+    -- 35: 9 emphasis opens emphasis closes
+    ∷ (asMarkOrLow + lowerAt * 0x39 + kindAt * 4)
+    -- 135: O o º
+    ∷ (asLetterO + pointAt * 0x6f + capitalAt * 0x4f)
+    -- 235: ! 6 ¡
+    ∷ (asMarkOrLow + lowerAt * 0x36 + kindAt * 1)
+    -- 1235: R r
+    ∷ (asOtherLetter + pointAt * 0x72 + capitalAt * 0x52)
+    -- 45
+    ∷ (classAt * prefix)
+    -- 145: 4 D d
+    ∷ (asBToJ + pointAt * 0x64 + capitalAt * 0x44 + figureAt * 0x34)
+    -- 245: 0 J j
+    ∷ (asBToJ + pointAt * 0x6a + capitalAt * 0x4a + figureAt * 0x30)
+    -- 1245: 7 G g
+    ∷ (asBToJ + pointAt * 0x67 + capitalAt * 0x47 + figureAt * 0x37)
+    -- 345: )
+    ∷ (asSign + pointAt * 0x29)
+    -- 1345: N n
+    ∷ (asOtherLetter + pointAt * 0x6e + capitalAt * 0x4e)
+    -- 2345: T t
+    ∷ (asOtherLetter + pointAt * 0x74 + capitalAt * 0x54)
+    -- 12345: Q q
+    ∷ (asOtherLetter + pointAt * 0x71 + capitalAt * 0x51)
+    -- 6
+    ∷ (classAt * prefix)
+    -- 16
+    ∷ nothing
+    -- 26: 5 ? ¿
+    ∷ (asMarkOrLow + lowerAt * 0x35 + kindAt * 0)
+    -- 126: (
+    ∷ (asSign + pointAt * 0x28)
+    -- 36: -
+    ∷ (classAt * line + pointAt * 0x2d)
+    -- 136: U u
+    ∷ (asOtherLetter + pointAt * 0x75 + capitalAt * 0x55)
+    -- 236: 8 « »
+    ∷ (asMarkOrLow + lowerAt * 0x38 + kindAt * 2)
+    -- 1236: V v
+    ∷ (asOtherLetter + pointAt * 0x76 + capitalAt * 0x56)
+    -- 46
+    ∷ (classAt * capitalSign)
+    -- 146
+    ∷ nothing
+    -- 246
+    ∷ nothing
+    -- 1246
+    ∷ nothing
+    -- 346: Ó ó
+    ∷ (asOtherLetter + pointAt * 0xf3 + capitalAt * 0xd3)
+    -- 1346: X x
+    ∷ (asOtherLetter + pointAt * 0x78 + capitalAt * 0x58)
+    -- 2346: É é
+    ∷ (asOtherLetter + pointAt * 0xe9 + capitalAt * 0xc9)
+    -- 12346
+    ∷ nothing
+    -- 56
+    ∷ nothing
+    -- 156
+    ∷ nothing
+    -- 256: 4
+    ∷ (classAt * lowOnly + lowerAt * 0x34)
+    -- 1256: Ü ü
+    ∷ (asOtherLetter + pointAt * 0xfc + capitalAt * 0xdc)
+    -- 356: 0
+    ∷ (classAt * lowOnly + lowerAt * 0x30)
+    -- 1356: Z z
+    ∷ (asOtherLetter + pointAt * 0x7a + capitalAt * 0x5a)
+    -- 2356: 7 =
+    ∷ (asSignOrLow + pointAt * 0x3d + lowerAt * 0x37)
+    -- 12356: Á á
+    ∷ (asOtherLetter + pointAt * 0xe1 + capitalAt * 0xc1)
+    -- 456
+    ∷ (classAt * prefix)
+    -- 1456
+    ∷ nothing
+    -- 2456: W w
+    ∷ (asOtherLetter + pointAt * 0x77 + capitalAt * 0x57)
+    -- 12456: Ñ ñ
+    ∷ (asOtherLetter + pointAt * 0xf1 + capitalAt * 0xd1)
+    -- 3456
+    ∷ (classAt * figureSign)
+    -- 13456: Y y
+    ∷ (asOtherLetter + pointAt * 0x79 + capitalAt * 0x59)
+    -- 23456: Ú ú
+    ∷ (asOtherLetter + pointAt * 0xfa + capitalAt * 0xda)
+    -- 123456
+    ∷ nothing
+    ∷ []
+
+-- the word of a byte; one that is no cell begins no sign
+abbrev pub wordOf : ℕ → ℕ
+wordOf c = getD words c 0
+
+-- two cells as one number
+abbrev pub paired : ℕ → ℕ → ℕ
+paired first second = first * 64 + second
+
+unfoldable pub twoCells : List (ℕ × ℕ)
+twoCells =
+    (paired (dots 456) (dots 234), 0x24)
+    ∷ (paired (dots 6) (dots 12346), 0x26)
+    ∷ (paired (dots 6) (dots 2), 0x2f)
+    ∷ (paired (dots 5) (dots 13), 0x3c)
+    ∷ (paired (dots 5) (dots 3), 0x5c)
+    ∷ (paired (dots 5) (dots 123), 0x7b)
+    ∷ (paired (dots 456) (dots 2), 0x7d)
+    ∷ (paired (dots 45) (dots 14), 0xa2)
+    ∷ (paired (dots 5) (dots 2346), 0xa3)
+    ∷ (paired (dots 456) (dots 13456), 0xa5)
+    ∷ (paired (dots 5) (dots 1235), 0x2020)
+    ∷ (paired (dots 456) (dots 15), 0x20ac)
+    ∷ (paired (dots 456) (dots 12), 0x20bf)
+    ∷ []
+
+-- the sign of two cells, or 0
+abbrev pub twoOf : ℕ → ℕ → ℕ
+twoOf first second = choose twoCells (paired first second) 0

@@ -1,0 +1,103 @@
+-- `dashes`: each sign is a turn of the walk, behind U+2014 (`Mid`). The measure is what is left of the row. Assumes nothing.
+use mathlib.Core.List.{List}
+use Prim.Native.Nat.{ℕ, _-_, _<_}
+use native.Mathlib.Omega.{arith}
+use borrow.Author.Needs.{needs}
+use lib.ListN.{length}
+use Rattle.readings.specs.Modes.{dash}
+use Rattle.readings.proofs.Turning.{Turn}
+use Rattle.walks.proofs.Walking.{Mid, mid-start, mid-most, mid-on, mid-runs, quick-turn}
+use Rattle.walks.proofs.dashes.Statement.{statement}
+use Rattle.walks.proofs.dashes.Tie as tie
+use Rattle.walks.proofs.dashes.Reads as reads
+use Rattle.walks.proofs.dashes.Lts as lts
+use Rattle.walks.proofs.put.Reads as put-reads
+use Rattle.signs.proofs.dash_at.Reads as dash-at-reads
+
+abbrev Inv-loop : tie.InvT-loop
+Inv-loop row from stop unclosed text₀ counted at₀ count₀ text at count = Mid row stop from dash unclosed counted text₀ text dash unclosed count at
+
+abbrev μ-loop : tie.MeasureT-loop
+μ-loop row from stop unclosed text₀ counted at₀ count₀ text at count = length row - at
+
+-- THE PLACES: a turn begins; the sign is known
+abbrev I : Type 0
+I = tie.In-loop Inv-loop μ-loop
+
+abbrev start : I → tie.Start Inv-loop μ-loop
+start i = i .before .before .before .before
+
+abbrev row : I → List ℕ
+row i = start i .args .row .now
+
+inside : (i : I) → i .before .loop .at < length (row i)
+inside i = omega (arith, i .loop-test .taken, start i .pre .2)
+
+abbrev K : Type 0
+K = tie.After-known-told Inv-loop μ-loop
+
+abbrev in-k : K → I
+in-k k = k .before .before .before .before
+
+turn : (k : K) → let i = in-k k in
+    Turn (row i) (i .before .loop .at) dash (start i .args .unclosed) (k .before .lead .given .0 .0) (k .before .lead .given .0 .1 .0) (k .before .lead .given .0 .1 .1 .0) dash (start i .args .unclosed)
+turn k =
+    let i = in-k k in
+    quick-turn (row i) (i .before .loop .at) dash (start i .args .unclosed) (inside i) (i .before .loop .inv .leads .mode) (i .before .loop .inv .leads .opens) _
+    (k .before .before .before .dash-at .ensures) _ _ _ _ _ (k .before .lead .given .1)
+
+loop-holds : tie.Need-loop-holds Inv-loop μ-loop
+loop-holds c =
+    let s = c .before .before in
+    mid-start (s .args .row .now) (s .args .stop) (s .args .from) dash (s .args .unclosed) (s .args .counted) (s .args .text .now) (s .pre .1) (omega arith) (s .pre .3)
+
+dash-at-requires : tie.Need-dash-at-requires Inv-loop μ-loop
+dash-at-requires c κs = (start c .pre .0, inside c)
+
+enum-known-lead : tie.Need-enum-known-lead Inv-loop μ-loop
+enum-known-lead c = search needs
+
+enum-told : tie.Need-enum-told Inv-loop μ-loop
+enum-told c = search needs
+
+same-length : tie.Need-same-length Inv-loop μ-loop
+same-length c = c .before .before .before .before .loop .inv .wrote .0
+
+returns : tie.Need-returns Inv-loop μ-loop
+returns c = mid-runs (c .before .before .before .before .loop .inv)
+
+put-requires : tie.Need-put-requires Inv-loop μ-loop
+put-requires c κs = let i = in-k (c .before) in mid-most (i .before .loop .inv) (start i .pre .0) (start i .pre .4)
+
+loop-less : tie.Need-loop-less Inv-loop μ-loop
+loop-less c = let t = turn (c .before .before .before .before) in omega (arith, t .forward, t .within)
+
+loop-again : tie.Need-loop-again Inv-loop μ-loop
+loop-again c =
+    let p = c .before .before in
+    let k = p .before .before in
+    mid-on (in-k k .before .loop .inv) (turn k) (in-k k .loop-test .taken) (p .put .ensures)
+
+same-length-2 : tie.Need-same-length-2 Inv-loop μ-loop
+same-length-2 c = c .before .loop .inv .wrote .0
+
+returns-2 : tie.Need-returns-2 Inv-loop μ-loop
+returns-2 c = mid-runs (c .before .loop .inv)
+
+pub dashes-spec : {M : Type 1} → statement M
+dashes-spec =
+    tie.close
+    (tie.spec
+    Inv-loop
+    μ-loop
+    loop-holds
+    dash-at-requires
+    enum-known-lead
+    enum-told
+    same-length
+    returns
+    put-requires
+    loop-less
+    loop-again
+    same-length-2
+    returns-2)
