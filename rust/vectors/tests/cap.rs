@@ -1,7 +1,7 @@
 //! "A length above 4,294,967,295 is reported as that number": print and rows of such a length, without the memory for it.
 //!
 //! U+2026 counts three, so 1.4 thousand million of them are enough. One block of them stands in the memory, and is mapped at one address
-//! after the other; only the last stretch is the print's own. Of a row nothing but the length is looked at, so none of it stands in the memory.
+//! after the other; only the first stretch is the print's own. Of a row nothing but the length is looked at, so none of it stands in the memory.
 //! It takes some megabytes, and Linux on x86-64 or AArch64, where the numbers below are the same.
 #![cfg(all(any(target_arch = "x86_64", target_arch = "aarch64"), target_os = "linux"))]
 use omdurgash::{read, step, transcribe, Refusal};
@@ -23,6 +23,11 @@ const CAP: usize = 4_294_967_295;
 const BLOCK: usize = 1 << 20;
 
 const BLOCK_BYTES: usize = 4 * BLOCK;
+
+/// Room for the print's own stretch: less than a block, and two letters.
+const OWN: usize = 2 * BLOCK;
+
+const OWN_BYTES: usize = 4 * OWN;
 
 extern "C" {
     fn memfd_create(name: *const c_char, flags: c_uint) -> c_int;
@@ -57,6 +62,8 @@ fn block() -> Result<File, Error> {
 struct Mapped {
     address: *mut c_void,
     bytes: usize,
+    /// Print begins behind so many numbers, and has so many.
+    before: usize,
     points: usize,
 }
 
@@ -75,26 +82,30 @@ unsafe fn map(address: *mut c_void, bytes: usize, protection: c_int, flags: c_in
 }
 
 impl Mapped {
-    /// Print whose normalised length is `length`: U+2026 as often as it goes, and then at most two letters.
+    /// Print whose normalised length is `length`: at most two letters, and then U+2026 as often as it goes. With a letter in front, a count in threes
+    /// steps over the greatest length that is reported.
     fn of_normalised_length(length: usize, block: &File) -> Result<Mapped, Error> {
         let (ellipses, letters) = (length / 3, length % 3);
         let (blocks, rest) = (ellipses / BLOCK, ellipses % BLOCK);
-        let bytes = (blocks + 1) * BLOCK_BYTES;
+        let own = letters + rest;
+        let bytes = OWN_BYTES + blocks * BLOCK_BYTES;
         let free = MAP_PRIVATE | MAP_ANONYMOUS | MAP_NORESERVE;
         // SAFETY: the addresses are the system's choice.
         let address = unsafe { map(ptr::null_mut(), bytes, PROT_NONE, free, -1)? };
         // From here on, an error unmaps it.
-        let mapped = Mapped { address, bytes, points: ellipses + letters };
+        let mapped = Mapped { address, bytes, before: OWN - own, points: letters + ellipses };
+        // SAFETY: the first part of the mapping above, which nothing refers to yet.
+        let first = unsafe { map(address, OWN_BYTES, PROT_READ | PROT_WRITE, free | MAP_FIXED, -1)? };
+        // SAFETY: zeros, lent to nobody else; a page is aligned for any number.
+        let first = unsafe { slice::from_raw_parts_mut(first.cast::<u32>(), OWN) };
+        first[OWN - own..].fill(ELLIPSIS);
+        first[OWN - own..][..letters].fill(LETTER);
         for i in 0..blocks {
             // SAFETY: a part of the mapping above, which nothing refers to yet.
-            unsafe { map(address.byte_add(i * BLOCK_BYTES), BLOCK_BYTES, PROT_READ, MAP_SHARED | MAP_FIXED, block.as_raw_fd())? };
+            unsafe {
+                map(address.byte_add(OWN_BYTES + i * BLOCK_BYTES), BLOCK_BYTES, PROT_READ, MAP_SHARED | MAP_FIXED, block.as_raw_fd())?
+            };
         }
-        // SAFETY: the last part of the mapping above, which nothing refers to yet.
-        let last = unsafe { map(address.byte_add(blocks * BLOCK_BYTES), BLOCK_BYTES, PROT_READ | PROT_WRITE, free | MAP_FIXED, -1)? };
-        // SAFETY: a block of zeros, lent to nobody else; a page is aligned for any number.
-        let last = unsafe { slice::from_raw_parts_mut(last.cast::<u32>(), BLOCK) };
-        last[..rest].fill(ELLIPSIS);
-        last[rest..rest + letters].fill(LETTER);
         Ok(mapped)
     }
 
@@ -102,7 +113,7 @@ impl Mapped {
     fn blanks(bytes: usize) -> Result<Mapped, Error> {
         // SAFETY: the addresses are the system's choice.
         let address = unsafe { map(ptr::null_mut(), bytes, PROT_READ, MAP_PRIVATE | MAP_ANONYMOUS | MAP_NORESERVE, -1)? };
-        Ok(Mapped { address, bytes, points: 0 })
+        Ok(Mapped { address, bytes, before: 0, points: 0 })
     }
 
     fn row(&self) -> &[u8] {
@@ -112,7 +123,7 @@ impl Mapped {
 
     fn print(&self) -> &[u32] {
         // SAFETY: all of it can be read while the mapping stands, which is as long as self does, and nobody writes to it.
-        unsafe { slice::from_raw_parts(self.address.cast::<u32>(), self.points) }
+        unsafe { slice::from_raw_parts(self.address.cast::<u32>().add(self.before), self.points) }
     }
 }
 
@@ -141,9 +152,10 @@ fn len_of_three_blocks() {
     let length = 3 * 3 * BLOCK + 3 * 5 + 2;
     match block().and_then(|block| Mapped::of_normalised_length(length, &block)) {
         Ok(mapped) => {
-            let (ellipses, letters) = mapped.print().split_at(3 * BLOCK + 5);
-            assert!(ellipses.iter().all(|&point| point == ELLIPSIS));
+            let (letters, ellipses) = mapped.print().split_at(2);
             assert_eq!(letters, [LETTER, LETTER]);
+            assert_eq!(ellipses.len(), 3 * BLOCK + 5);
+            assert!(ellipses.iter().all(|&point| point == ELLIPSIS));
         }
         Err(error) => say(&format!("NOT TESTED: print cannot be mapped here: {error}")),
     }
