@@ -18,7 +18,7 @@ reported-length-requires c κs = search needs
 returns : tie.Need-returns
 returns c =
     let s = c .before .before .before .before in
-    read-refused (s .args .row .now) _ (row-long (s .args .row .now) _ (c .before .if1 .taken) (c .reported-length .ensures)) (s .args .text .now) (s .args .text .now) refl
+    read-refused (s .args .row .now) _ (row-long (s .args .row .now) _ (omega (arith, c .before .if1 .taken)) (c .reported-length .ensures)) (s .args .text .now) (s .args .text .now) refl
 
 slice-aggregate-read-by : tie.Need-slice-aggregate-read-by
 slice-aggregate-read-by c = search needs
