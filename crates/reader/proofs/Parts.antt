@@ -1,20 +1,21 @@
--- What walks over the parts of a row tell of the whole. In order: what one walk tells; a walk to the row's end; the three parts of a step, with no sign at the
+-- What walks over the parts of a row tell of the whole. In order: what one walk tells; a walk to the row's end, and what it wrote; the three parts of a step, with no sign at the
 -- place, and with one. All over plain values. Assumes nothing.
 use mathlib.Core.Path.{_≡_, refl, sym, ap, _∙_, subst}
 use mathlib.Core.Bool.{Bool, true, false, _&&_, not, cond}
 use mathlib.Core.List.{List, [], _∷_, _++_, append-nil}
-use mathlib.Core.Logic.{_⊎_, inl, inr}
-use mathlib.Core.Option.{Option, none, some}
+use mathlib.Core.Logic.{_⊎_, inl, inr, ⊎-elim}
+use mathlib.Core.Option.{none, some}
 use Prim.Native.Nat.{ℕ, _+_, _-_, _*_, _≤_, _<_}
 use native.Mathlib.Omega.{arith}
 use lib.Dec.{eqb}
-use lib.ListN.{length, drop, getD, length-append}
+use lib.ListN.{length, take, drop, getD, length-append}
 use Rattle.rules.specs.Cells.{Row}
 use Rattle.rules.specs.Signs.{Sign, printOf, cellsOf}
 use Rattle.rules.specs.Screen.{signAt}
-use Rattle.rules.proofs.Finite.{nothing}
+use Rattle.rules.specs.Refusals.{longestText}
 use Rattle.rules.proofs.Machine.{at-rest}
 use Rattle.rows.specs.Laid.{laid}
+use Rattle.rows.proofs.Laid.{front}
 use Rattle.readings.specs.Modes.{modeOf}
 use Rattle.readings.specs.Left.{left}
 use Rattle.readings.specs.Print.{points}
@@ -64,15 +65,6 @@ pub lost : (row : Row) (stop at m o : ℕ) {t t' : List ℕ} (w : Walked) → Go
 lost row stop at m o w (goes-on ss k n u c leads reached count wrote) e = let z : _≡_ {A = ℕ} 0 1 = cc in absurd (omega arith)
 lost row stop at m o w (goes-nowhere e _) q = e
 
--- one that is lent nothing leaves nothing
-empty : (t : List ℕ) → length t ≡ 0 → t ≡ []
-empty [] e = refl
-empty (c ∷ t) e = absurd (omega (arith, e))
-
-pub nothing-back : (row : Row) (stop at m o : ℕ) {t' : List ℕ} (w : Walked) → Goes row stop at m o [] t' w → t' ≡ []
-nothing-back row stop at m o {t'} w (goes-on ss k n u c leads reached count wrote) = empty t' (wrote .0)
-nothing-back row stop at m o {t'} w (goes-nowhere e h) = empty t' h
-
 -- A WALK TO THE ROW'S END
 module _ {row : Row} {at m o k n u c : ℕ} (w : Went row (length row) at m o k n u c) where
   ending : (b : Bool) → (at-rest (modeOf n) && eqb u 0) ≡ b → left m o (drop at row) ≡ addSigns (w .signs) (cond b (some []) none)
@@ -86,25 +78,19 @@ module _ {row : Row} {at m o k n u c : ℕ} (w : Went row (length row) at m o k 
   not-to-end e = ending false e ∙ adds-none (w .signs)
 
 -- the whole row at once
-pub told-whole : {row : Row} {k n u c : ℕ} (w : Went row (length row) 0 0 0 k n u c) → (at-rest (modeOf n) && eqb u 0) ≡ true
+abbrev pub told-whole : {row : Row} {k n u c : ℕ} (w : Went row (length row) 0 0 0 k n u c) → (at-rest (modeOf n) && eqb u 0) ≡ true
     → Told (left 0 0 row) c
 told-whole w e = record { signs = w .signs; are = to-end w e; count = w .count }
 
--- a row that has a text is walked again, with room: the text is written
-pub written-whole : (row : Row) (t t' : List ℕ) (w : Walked) (c : ℕ) → Goes row (length row) 0 0 0 t t' w → (x : Told (left 0 0 row) c) → c ≤ length t
-    → t' ≡ laid (printOf (x .signs)) t
-written-whole row t t' w c (goes-nowhere e h) x room = nothing (sym e ∙ x .are)
-written-whole row t t' w c (goes-on ss k n u d leads reached count wrote) x room = go (at-rest (modeOf n) && eqb u 0) refl
-  where
-    gone : Went row (length row) 0 0 0 k n u d
-    gone = record { signs = ss; leads = leads; reached = reached; count = count }
+-- what it wrote, where there was room: for two code points a cell, or for a text of the longest
+pub room-whole : {row : Row} {k n u c : ℕ} → Went row (length row) 0 0 0 k n u c → (t : List ℕ) → (2 * length row ≤ length t) ⊎ (longestText ≤ length t)
+    → c ≤ longestText → c ≤ length t
+room-whole w t room h =
+    ⊎-elim (λ l. omega (arith, w .count, leads-few (w .leads), w .leads .within, l)) (λ l. omega (arith, h, l)) room
 
-    go : (b : Bool) → (at-rest (modeOf n) && eqb u 0) ≡ b → t' ≡ laid (printOf (x .signs)) t
-    go true e =
-        let z : some ss ≡ some (x .signs) = sym (to-end gone e) ∙ x .are in
-        let f : ss ≡ x .signs = cc in
-        wrote .1 (omega (arith, ap (λ (xs : List Sign). length (printOf xs)) f, x .count, room)) ∙ ap (λ (xs : List Sign). laid (printOf xs) t) f
-    go false e = nothing (sym (not-to-end gone e) ∙ x .are)
+pub written-whole : {row : Row} {k n u c : ℕ} (w : Went row (length row) 0 0 0 k n u c) (t t' : List ℕ) → Wrote t t' 0 (printOf (w .signs)) → c ≤ length t
+    → take c t' ≡ printOf (w .signs)
+written-whole w t t' wrote room = front (printOf (w .signs)) t t' _ (w .count) (wrote .1 (omega (arith, w .count, room)))
 
 -- THE THREE PARTS OF A STEP: up to the place, over the sign there, to the end
 module _ {row : Row} {before at m₁ o₁ c₁ : ℕ} (w₁ : Went row before 0 0 0 at m₁ o₁ c₁)

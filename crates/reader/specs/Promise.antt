@@ -43,8 +43,7 @@ numbersOf a = numbersBy (refusalOf a) (countIn a)
 
 -- THE PROMISE of `read`, of a row and what the lent text held: the answer, and what the lent text then holds.
 pub data Read (tb : Table) (r : Row) (lent : List ℕ) : Answer → List ℕ → Type 0 where
-  -- "On success the answer is the count written. Each sign goes straight to its own stretch .., from the first element on; all elements after the
-  -- count are as they were."
+  -- "On success the answer is the count written." The text stands "from the first element on; all elements after the count are as they were."
   done : (t : Text) → RowAnswer tb r (length lent) (gives t) → Read tb r lent (Done (length t)) (laid t lent)
   -- "A refusal writes nothing."
   refused : (a : Answer) (x : Refusal) → refusalOf a ≡ some x → RowAnswer tb r (length lent) (refuses x) → Read tb r lent a lent

@@ -1,16 +1,17 @@
--- What is written to a lent text, if there is room (`Wrote`). In order: nothing; one print behind another; the ends of `put_sign` and of `put`. Assumes nothing.
+-- What is written to a lent text, if there is room (`Wrote`). In order: nothing; one print behind another; stores; the ends of `put`. Assumes nothing.
 use mathlib.Core.Path.{_≡_, refl, sym, ap, _∙_}
-use mathlib.Core.List.{List, [], _++_}
-use Prim.Native.Nat.{ℕ, _+_, _-_, _≤_, _<_}
+use mathlib.Core.List.{List, [], _∷_, _++_, append-assoc}
+use mathlib.Core.Logic.{_⊎_, ⊎-elim}
+use Prim.Native.Nat.{ℕ, suc, _+_, _≤_, _<_}
 use native.Mathlib.Omega.{arith}
-use lib.ListN.{length, set, take, drop, length-append, length-take, length-drop}
-use borrow.Rule.Slice.PartMut.{putMid}
+use lib.ListN.{length, set, take, drop, length-append}
+use lib.Seq.{sets, length-sets, sets-eq, drop-drop}
 use Rattle.rules.specs.Cells.{Text}
 use Rattle.rows.specs.Laid.{laid}
-use Rattle.rows.proofs.Laid.{wrote-one, wrote-two, laid-none, laid-step, laid-part, turn-length}
+use Rattle.rows.proofs.Laid.{laid-none, laid-step}
 use Rattle.readings.specs.Print.{points}
 use Rattle.walks.specs.Walks.{Wrote}
-use Rattle.readings.proofs.Print.{points-one, points-two, points-width}
+use Rattle.readings.proofs.Print.{points-one, points-two}
 
 pub wrote-none : (t : List ℕ) (n : ℕ) → Wrote t t n []
 wrote-none t n = (refl, λ h. sym (laid-none t n))
@@ -25,25 +26,29 @@ wrote-on t u v n m p q a e b = (
       ∙ ap (λ (x : List ℕ). take (n + length p) x ++ laid q (drop (n + length p) x)) f ∙ laid-step t n p q (omega (arith, length-append p q)),
 )
 
--- THE ENDS OF `put_sign`
-module _ (l p : ℕ) (t : List ℕ) (room : length (points l p) ≤ length t) where
-  pub put-one : l ≡ 0 → (1 ≡ length (points l p)) × (set t 0 p ≡ laid (points l p) t)
-  put-one e = wrote-one (points l p) t room p (points-one l p e)
+-- STORES one behind another lay a print, if there is room
+pub stores : (t : List ℕ) (n : ℕ) (p : Text) → n + length p ≤ length t → sets t n p ≡ take n t ++ laid p (drop n t)
+stores t n p h =
+    sets-eq p t n h ∙ append-assoc (take n t) p (drop (n + length p) t)
+    ∙ ap (λ (r : List ℕ). take n t ++ (p ++ r)) (sym (drop-drop (length p) n t))
 
-  pub put-two : (l ≡ 0 → ⊥) → (2 ≡ length (points l p)) × (set (set t 0 l) 1 p ≡ laid (points l p) t)
-  put-two e = wrote-two (points l p) t room l p (points-two l p e)
+wrote-stores : (t new : List ℕ) (n : ℕ) (p : Text) → new ≡ sets t n p → Wrote t new n p
+wrote-stores t new n p e = (ap length e ∙ length-sets t n p, λ h. e ∙ stores t n p h)
 
--- THE ENDS OF `put`: a sign with w code points, behind n elements
-module _ (t : List ℕ) (n l p w : ℕ) (width : w ≡ length (points l p)) where
-  pub put-room : n + w ≤ length t → length (points l p) ≤ length (take (length t - n) (drop n t))
-  put-room h = simp (length-take, length-drop) (omega (arith, width))
+wrote-nowhere : (t new : List ℕ) (n : ℕ) (p : Text) → length t < n + length p → new ≡ t → Wrote t new n p
+wrote-nowhere t new n p h e = (ap length e, λ k. absurd (omega (arith, h, k)))
 
-  pub put-there : n + w ≤ length t → (ys new : List ℕ) → ys ≡ laid (points l p) (take (length t - n) (drop n t)) → new ≡ putMid n (length t - n) t ys
-      → Wrote t new n (points l p)
-  put-there h ys new wrote is-new =
-      let r : n + length (points l p) ≤ length t = omega (arith, width) in
-      let e : new ≡ take n t ++ laid (points l p) (drop n t) = is-new ∙ laid-part t n (points l p) ys r wrote in
-      (ap length is-new ∙ turn-length t n (points l p) [] ys w (omega (arith, length-append (points l p) [], width)) width wrote, λ k. e)
+-- THE ENDS OF `put`: a sign without a lead, or with one, behind n elements
+module _ (t new : List ℕ) (n l p : ℕ) where
+  pub put-one : l ≡ 0 → (new ≡ set t n p) ⊎ ((length t ≤ n) × (new ≡ t)) → (n + 1 ≡ n + length (points l p)) × Wrote t new n (points l p)
+  put-one e came = rw (points-one l p e) (refl, ⊎-elim (wrote-stores t new n (p ∷ [])) (λ h. wrote-nowhere t new n (p ∷ []) (omega (arith, h .0)) (h .1)) came)
 
-  pub put-nowhere : length t < n + w → Wrote t t n (points l p)
-  put-nowhere h = (refl, λ k. absurd (omega (arith, width, h, k)))
+  pub put-two : (l ≡ 0 → ⊥) → (new ≡ set (set t n l) (n + 1) p) ⊎ ((length t < n + 2) × (new ≡ t))
+      → (n + 2 ≡ n + length (points l p)) × Wrote t new n (points l p)
+  put-two e came =
+      let next : n + 1 ≡ suc n = omega arith in
+      rw (points-two l p e) (
+        refl,
+        ⊎-elim (λ h. wrote-stores t new n (l ∷ p ∷ []) (h ∙ ap (λ (k : ℕ). set (set t n l) k p) next))
+            (λ h. wrote-nowhere t new n (l ∷ p ∷ []) (omega (arith, h .0)) (h .1)) came,
+      )

@@ -7,11 +7,10 @@ use readings::Step;
 use signs::LAST_CELL;
 use signs::NO_RUN;
 ghost use mathlib.Core.Path.{_≡_};
-ghost use Prim.Native.Nat.{ℕ, _+_, _*_, _≤_, _<_};
+ghost use Prim.Native.Nat.{_+_, _*_, _≤_, _<_};
 ghost use lib.ListN.{length};
 ghost use Rattle.rules.specs.Refusals.{longestRow};
 ghost use Rattle.pairs.specs.Opened.{openStates};
-ghost use Rattle.rows.specs.Laid.{laid};
 ghost use Rattle.readings.specs.Modes.{modeCount, owing, dash};
 ghost use Rattle.readings.specs.Print.{points};
 ghost use Rattle.signs.specs.Runs.{noRun, runOf};
@@ -29,37 +28,23 @@ pub enum Walked {
     Nowhere,
 }
 
-// How many code points a sign shows.
-fn width_of(lead: u32) -> usize
-    ensures { λ r. ⌜ ((point : ℕ) → r ≡ length (points lead point)) ⌝ }
-{
-    if lead == NO_POINT { 1 } else { 2 }
-}
-
-// Writes a sign's code points at the front of what it is lent.
-fn put_sign(text: &mut [u32], lead: u32, point: u32) -> usize
-    requires { ⌜ length (points lead point) ≤ length (now text) ⌝ }
-    ensures { λ r. ⌜ (r ≡ length (points lead point)) × (now (text .exit) ≡ laid (points lead point) (now (text .entry))) ⌝ }
-{
-    if lead == NO_POINT {
-        text[0] = point;
-        return 1;
-    }
-    text[0] = lead;
-    text[1] = point;
-    2
-}
-
-// Writes a sign's code points behind those that are counted, if there is room for them, and counts them.
+// Writes a sign's code points behind those that are counted, if there is room for them, and counts them. (The test of the lead comes first: where it is known
+// that there is none, one test is left.)
 fn put(text: &mut [u32], count: usize, lead: u32, point: u32) -> usize
     requires { ⌜ count ≤ mostPoints ⌝ }
     ensures { λ r. ⌜ (r ≡ count + length (points lead point)) × Wrote (now (text .entry)) (now (text .exit)) count (points lead point) ⌝ }
 {
-    let next = count + width_of(lead);
-    if next <= text.len() {
-        put_sign(&mut text[count..], lead, point);
+    if lead == NO_POINT {
+        if count < text.len() {
+            text[count] = point;
+        }
+        return count + 1;
     }
-    next
+    if count + 2 <= text.len() {
+        text[count] = lead;
+        text[count + 1] = point;
+    }
+    count + 2
 }
 
 // U+2014 behind another: as many as follow, behind the code points that are counted. (This and the next two read what `walk` would, with less to ask at each

@@ -1,76 +1,77 @@
--- `put`: the sign is written behind what is counted where there is room for it, and else not; it is counted in any case. Assumes nothing.
-use mathlib.Core.Path.{refl, ap}
-use Prim.Native.Nat.{ℕ, _+_}
+-- `put`: the sign is written behind what is counted where there is room for it, and else not (`put-one`, `put-two`); it is counted in any case. Assumes nothing.
+use mathlib.Core.Logic.{inl, inr, ⊎-elim}
 use native.Mathlib.Omega.{arith}
-use Rattle.readings.proofs.Print.{points-width}
-use Rattle.walks.proofs.Writing.{put-room, put-there, put-nowhere}
+use lib.ListN.{length-set}
+use Rattle.walks.proofs.Writing.{put-one, put-two}
 use borrow.Author.Needs.{needs}
 use Rattle.walks.proofs.put.Statement.{statement}
 use Rattle.walks.proofs.put.Tie as tie
 use Rattle.walks.proofs.put.Reads as reads
 use Rattle.walks.proofs.put.Lts as lts
-use Rattle.walks.proofs.put_sign.Reads as put-sign-reads
-use Rattle.walks.proofs.width_of.Reads as width-of-reads
 
-width-of-requires : tie.Need-width-of-requires
-width-of-requires c κs = search needs
+mul-text : tie.Need-mul-text
+mul-text c = search needs
 
-add-next : tie.Need-add-next
-add-next c =
-    let s = c .before .before in
-    omega (arith, c .width-of .ensures (s .args .point), points-width (s .args .lead) (s .args .point) .1, s .pre)
+slice-write-text : tie.Need-slice-write-text
+slice-write-text c = search needs
 
-mul-put-sign : tie.Need-mul-put-sign
-mul-put-sign c = search needs
-
-sub-put-sign : tie.Need-sub-put-sign
-sub-put-sign c = search needs
-
-part-put-sign-start : tie.Need-part-put-sign-start
-part-put-sign-start c = search needs
-
-part-put-sign-end : tie.Need-part-put-sign-end
-part-put-sign-end c = search needs
-
-put-sign-requires : tie.Need-put-sign-requires
-put-sign-requires c κs =
-    let t = c .before in
-    let w = t .before in
-    let s = w .before .before in
-    put-room (s .args .text .now) (s .args .count) (s .args .lead) (s .args .point) (w .width-of .result) (w .width-of .ensures (s .args .point)) (t .if1 .taken)
-
-same-length : tie.Need-same-length
-same-length c = search needs
+add-result : tie.Need-add-result
+add-result c = search needs
 
 returns : tie.Need-returns
 returns c =
-    let p = c .before .before in
-    let t = p .before .before in
-    let w = t .before in
-    let s = w .before .before in (
-      ap (λ (n : ℕ). s .args .count + n) (w .width-of .ensures (s .args .point)),
-      put-there (s .args .text .now) (s .args .count) (s .args .lead) (s .args .point) (w .width-of .result) (w .width-of .ensures (s .args .point)) (t .if1 .taken) _ _ (p .put-sign .ensures .1) refl,
-    )
+    let s = c .before .before in
+    put-one (s .args .text .now) (c .if2 .text) (s .args .count) (s .args .lead) (s .args .point) (c .before .if1 .taken)
+    (⊎-elim (λ w. inl (w .1)) (λ w. inr (w .0 .left, w .1)) (c .if2 .came))
+
+same-length : tie.Need-same-length
+same-length c = returns c .1 .0
+
+add-if3 : tie.Need-add-if3
+add-if3 c = search needs
+
+mul-text-2 : tie.Need-mul-text-2
+mul-text-2 c = search needs
+
+slice-write-text-2 : tie.Need-slice-write-text-2
+slice-write-text-2 c = search needs
+
+add-text : tie.Need-add-text
+add-text c = search needs
+
+mul-text-3 : tie.Need-mul-text-3
+mul-text-3 c = search needs
+
+slice-write-text-3 : tie.Need-slice-write-text-3
+slice-write-text-3 c = simp length-set (omega (arith, c .if3 .taken))
+
+add-result-2 : tie.Need-add-result-2
+add-result-2 c = search needs
 
 returns-2 : tie.Need-returns-2
 returns-2 c =
-    let w = c .before in
-    let s = w .before .before in (
-      ap (λ (n : ℕ). s .args .count + n) (w .width-of .ensures (s .args .point)),
-      put-nowhere (s .args .text .now) (s .args .count) (s .args .lead) (s .args .point) (w .width-of .result) (w .width-of .ensures (s .args .point)) (c .if1 .left),
-    )
+    let s = c .before .before in
+    put-two (s .args .text .now) (c .if3 .text) (s .args .count) (s .args .lead) (s .args .point) (c .before .if1 .left)
+    (⊎-elim (λ w. inl (w .1)) (λ w. inr (w .0 .left, w .1)) (c .if3 .came))
+
+same-length-2 : tie.Need-same-length-2
+same-length-2 c = returns-2 c .1 .0
 
 pub put-spec : {M : Type 1} → statement M
 put-spec =
     tie.close
     (tie.spec
-    width-of-requires
-    add-next
-    mul-put-sign
-    sub-put-sign
-    part-put-sign-start
-    part-put-sign-end
-    put-sign-requires
+    mul-text
+    slice-write-text
+    add-result
     same-length
     returns
+    add-if3
+    mul-text-2
+    slice-write-text-2
+    add-text
+    mul-text-3
+    slice-write-text-3
+    add-result-2
+    same-length-2
     returns-2)
