@@ -1,5 +1,5 @@
-//! Reading: nanoseconds for each cell, the library's beside those of the plain readers on the same row: the one that is under the library's rule for
-//! lent texts, and the one that copies. A new row is a line of `cases`.
+//! Reading: nanoseconds for each cell, the library's beside those of the plain readers on the same row: the one that
+//! copies nothing, and the one that copies. A new row is a line of `cases`.
 use crate::prose::{prose, Random};
 use crate::text::{capitals_then_small, Text};
 use crate::timing::{best, lines, rounds, LONG_LINES, PASSES, SHORT_LINES};

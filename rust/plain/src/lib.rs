@@ -63,8 +63,8 @@ pub fn read(row: &[u8], text: &mut [u32]) -> Result<usize, Refusal> {
     }
 }
 
-/// As [`read`], under the library's rule: nothing is copied, and nothing is written before the row is known to have a text that fits. One pass over
-/// the row counts, and the next one writes.
+/// As [`read`], but nothing is copied, and nothing is written before the row is known to have a text that fits. One pass over the row counts, and the
+/// next one writes.
 ///
 /// # Errors
 ///
