@@ -11,7 +11,8 @@ use Rattle.rules.specs.Places.{lacksSign, breaksPair, outsideForm, sharesCells}
 use Rattle.rules.specs.Rows.{Verdict, good, bad, verdictOf}
 use Rattle.rules.proofs.Rows.{whole-row}
 use Rattle.entries.specs.Chosen.{choose}
-use Rattle.entries.specs.Entries.{countIn, firstIn, secondIn, thirdIn, lowerIn}
+use Rattle.entries.specs.SignWords.{cellsIn}
+use Rattle.entries.specs.Entries.{signIn, firstIn, lowerIn}
 use Rattle.turns.specs.Acts as act
 use Rattle.rows.specs.Laid.{laid}
 use Rattle.transcriber.specs.declared.Answer.{Answer}
@@ -19,13 +20,7 @@ use Rattle.transcriber.specs.declared.Answer.the-variants.{Done, NoSign,
 use Rattle.transcriber.specs.declared.Measured.{Measured}
 use Rattle.transcriber.specs.declared.Measured.the-variants.{Cells, Refused}
 
--- THE CELLS of a word by itself, by their count; of a sign, by its way
-abbrev pub counts : ℕ → List (ℕ × Row)
-counts e = (1, firstIn e ∷ []) ∷ (2, firstIn e ∷ secondIn e ∷ []) ∷ (3, firstIn e ∷ secondIn e ∷ thirdIn e ∷ []) ∷ []
-
-unfoldable pub ownBy : ℕ → Row
-ownBy e = choose (counts e) (countIn e) []
-
+-- THE CELLS of a sign, by its way
 abbrev dots46 : ℕ
 dots46 = 40
 
@@ -37,7 +32,7 @@ dots3456 = 60
 
 abbrev pub waysOf : ℕ → List (ℕ × Row)
 waysOf e =
-    (act.bareWay, ownBy e) ∷ (act.oneCapitalWay, dots46 ∷ firstIn e ∷ []) ∷ (act.allCapitalsWay, dots46 ∷ dots46 ∷ firstIn e ∷ [])
+    (act.bareWay, cellsIn (signIn e)) ∷ (act.oneCapitalWay, dots46 ∷ firstIn e ∷ []) ∷ (act.allCapitalsWay, dots46 ∷ dots46 ∷ firstIn e ∷ [])
     ∷ (act.separatedWay, dots5 ∷ firstIn e ∷ []) ∷ (act.firstDigitWay, dots3456 ∷ firstIn e ∷ [])
     ∷ (act.firstLowerWay, dots3456 ∷ lowerIn e ∷ []) ∷ (act.lowerWay, lowerIn e ∷ []) ∷ []
 

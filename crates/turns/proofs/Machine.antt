@@ -71,7 +71,7 @@ usuals-right : T (below (λ s. every (usual-right s) (classes .members)) state.s
 unfolding usual-right bits usualStates thenOf deedOf deeds
 usuals-right = tt
 
-pub usual-is : (s : ℕ) (c : Class) (f : Future) → s < state.states → eqb (bits (usualStates c) / 2 ^ (s % 64) % 2) 1 ≡ true
+pub usual-is : (s : ℕ) (c : Class) (f : Future) → s < state.states → bits (usualStates c) / 2 ^ (s % 64) % 2 ≡ 1
     → settledBy (deedOf s (classNumber c)) f ≡ thenOf c * act.ways + act.bareWay
 unfolding usual-right
 usual-is s c f l e =
@@ -108,26 +108,6 @@ under-is s c f k l e =
     (at-below (under-right s) classPlaces (at-below (λ s. below (under-right s) classPlaces) state.states unders-right s k) c l))
     in
     sym (settled-low act.digitUnder f (omega arith)) ∙ ap (λ (d : ℕ). settledBy d f) (sym q)
-
--- OTHERWISE: what is not written as usual and is no fault is of one of these classes, each of which has one cell of its own
-unfoldable pub isSingle : Class → Bool
-isSingle c = c is aToJ || c is capital || isDigit c || c is aStop || c is aComma || isOrdinal c
-
-single-right : ℕ → Class → Future → Bool
-single-right s c f =
-    not (not (eqb (bits (usualStates c) / 2 ^ (s % 64) % 2) 1) && ltb (settledBy (deedOf s (classNumber c)) f) act.questions) || isSingle c
-
-singles-right : T (below (λ s. every2 classes futures (single-right s)) state.states)
-unfolding single-right isSingle bits usualStates settledBy deedOf deeds
-singles-right = tt
-
-pub single-is : (s : ℕ) (c : Class) (f : Future) → s < state.states → eqb (bits (usualStates c) / 2 ^ (s % 64) % 2) 1 ≡ false
-    → settledBy (deedOf s (classNumber c)) f < act.questions → T (isSingle c)
-unfolding single-right
-single-is s c f l u q =
-    implies (not (eqb (bits (usualStates c) / 2 ^ (s % 64) % 2) 1) && ltb (settledBy (deedOf s (classNumber c)) f) act.questions) (isSingle c)
-    (rw (u, lt-ltb (settledBy (deedOf s (classNumber c)) f) act.questions q) tt)
-    (at2 classes futures (single-right s) (at-below (λ s. every2 classes futures (single-right s)) state.states singles-right s l) c f)
 
 -- WHAT A DEED SAYS. Every state is one of the list.
 stages-small : T (every2 pasts futures (λ p f. ltb (stageAt p f) state.states))
