@@ -31,7 +31,7 @@ use Rattle.turns.specs.Acts as act
 use Rattle.turns.specs.Stages.{itemsFrom, futureAt, stageAt, deedOf, settledBy, wayOf, silentAs, actOf}
 use Rattle.turns.proofs.Ahead.{zero-unlisted, future-step}
 use Rattle.turns.proofs.Machine.{turn-is, usual-is, stage-small, wayNumber, faultless, done-is, done-low}
-use Rattle.transcriber.specs.Passes.{cellsBy}
+use Rattle.transcriber.specs.Passes.{signBy, cellsBy}
 
 -- THE CELLS. Which classes a way is for; the rules give it to no other.
 allowed : Way → Class → Bool
@@ -84,7 +84,7 @@ pub record Held (tb : Table) : Type 0 where
   pub written : (c : ℕ) → T (all-written-right (sortIn tb c))
 
 pub held : Held castilian
-unfolding all-written-right written-right allowed same-row cellsBy cellsIn wayOf silentAs word thenOf usualsOf usualStates bits markNumber signOf signCells ownCells lowerCells markOf class isDigitCell dots castilian
+unfolding all-written-right written-right allowed same-row signBy cellsIn wayOf silentAs word thenOf usualsOf usualStates bits markNumber signOf signCells ownCells lowerCells markOf class isDigitCell dots castilian
 held = record { words = worded; zero = zero-unlisted; written = λ c. at-every all-written-right castilian tt tt c }
 
 module _ (tb : Table) (h : Held tb) where
