@@ -1,16 +1,12 @@
 -- The cells of a sign by its way, over plain numbers: what each end of `put_sign` and `width_of` cites.
 -- Assumes nothing.
 use mathlib.Core.Path.{_≡_, refl, sym, ap, _∙_}
-use mathlib.Core.Bool.{Bool, true, false, cond, true≢false}
+use mathlib.Core.Bool.{Bool, true, false, cond}
 use mathlib.Core.List.{List, [], _∷_}
-use mathlib.Core.Logic.{⊎-elim}
 use Prim.Native.Nat.{ℕ}
-use native.Mathlib.Omega.{arith}
 use lib.Dec.{eqb}
 use lib.ListN.{length, drop}
-use borrow.Author.Tests.{eqb-true, eqb-false}
 use Rattle.rules.specs.Cells.{Row}
-use Rattle.rules.proofs.Finite.{le-or-lt}
 use Rattle.entries.specs.Chosen.{choose}
 use Rattle.entries.proofs.Keys.{Rest, keysOf, chosen-rest}
 use Rattle.entries.proofs.SignWords.{cells-length}
