@@ -4,12 +4,11 @@ use mathlib.Core.Path.{_≡_, refl, sym, ap, _∙_}
 use mathlib.Core.Bool.{Bool, true, false}
 use mathlib.Core.List.{[], _∷_}
 use mathlib.Core.Logic.{⊎-elim}
-use Prim.Native.Nat.{ℕ, _+_, _*_, _/_, _%_, _<_}
+use Prim.Native.Nat.{ℕ, _<_}
 use native.Mathlib.Omega.{arith}
 use lib.Dec.{eqb}
 use lib.ListN.{length}
 use borrow.Author.Tests.{eqb-true, eqb-false}
-use Rattle.rules.specs.Cells.{Row}
 use Rattle.rules.proofs.Finite.{le-or-lt}
 use Rattle.entries.specs.SignWords.{cellPlaces, countOf, firstOf, secondOf, thirdOf, cellsIn, signOfOne, signOfTwo, signOfThree}
 use Rattle.entries.specs.Entries.{signIn, firstIn, lowerIn}

@@ -6,8 +6,8 @@ use mathlib.Core.List.{List, [], _∷_}
 use Prim.Native.Nat.{ℕ, _+_, _*_, _/_, _%_, _^_, _<_}
 use native.Mathlib.Omega.{arith}
 use lib.Dec.{T, eqb, ltb, eqb→eq, ltb→lt}
-use borrow.Author.Tests.{ne-eqb, lt-ltb}
-use Rattle.rules.specs.Sorts.{Class, aToJ, capital, aStop, aComma, classNumber, _is_, isDigit, isOrdinal}
+use borrow.Author.Tests.{ne-eqb}
+use Rattle.rules.specs.Sorts.{Class, classNumber}
 use Rattle.rules.specs.Signs.{Way}
 use Rattle.rules.specs.Places.{lacksSign, breaksPair, outsideForm, sharesCells, Outcome, fault, silent, sign}
 use Rattle.rules.proofs.Finite.{below, at-below, every, every2, at2, every3, at3, implies, hold, holds, Hold}
