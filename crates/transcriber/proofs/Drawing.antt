@@ -7,7 +7,6 @@ use mathlib.Core.Logic.{⊎-elim}
 use mathlib.Core.Option.{Option, none, some}
 use Prim.Native.Nat.{ℕ, _+_, _*_, _/_, _%_, _≤_, _<_, zero-le}
 use native.Mathlib.Omega.{arith}
-use native.Mathlib.Nat.{zero-add}
 use lib.Dec.{eqb}
 use lib.ListN.{length, take, set, getD, length-append, length-set}
 use borrow.Author.Tests.{eq-eqb, ne-eqb}
@@ -31,7 +30,7 @@ use Rattle.pairs.proofs.Pairing.{kind-small, mark-says, Means, pairs-mean, clos
 use Rattle.turns.specs.Acts as act
 use Rattle.turns.specs.Stages.{itemsFrom, futureAt, stageAt, deedOf, settledBy, actOf}
 use Rattle.turns.proofs.Machine.{stage-small, then-small, parted, faultless, never-paired, done-low}
-use Rattle.transcriber.specs.Passes.{signBy, cellsBy, joined, faultBy, shown, measuredOf, Drawn}
+use Rattle.transcriber.specs.Passes.{signBy, joined, faultBy, shown, measuredOf, Drawn}
 use Rattle.transcriber.specs.declared.Answer.the-variants.{PairBroken}
 use Rattle.transcriber.specs.declared.Measured.the-variants.{Cells, Refused}
 use Rattle.transcriber.proofs.Joined.{joined-more}

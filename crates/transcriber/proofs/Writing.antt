@@ -1,6 +1,6 @@
 -- The second pass in the middle of the signs: the lent row, with the cells of the signs still to come laid behind what is written, is the row that it will
 -- be (`Wid`). Assumes nothing.
-use mathlib.Core.Path.{_≡_, refl, sym, ap, _∙_, subst}
+use mathlib.Core.Path.{_≡_, refl, sym, ap, _∙_}
 use mathlib.Core.List.{List, _++_}
 use Prim.Native.Nat.{ℕ, _+_, _-_, _≤_, _<_, zero-le}
 use native.Mathlib.Omega.{arith}

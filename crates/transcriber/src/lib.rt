@@ -19,6 +19,7 @@ ghost use mathlib.Core.Path.{_≡_};
 ghost use Prim.Native.Nat.{_≤_};
 ghost use lib.ListN.{length, take};
 ghost use Rattle.rules.specs.Castilian.{castilian};
+ghost use Rattle.rules.specs.Normal.{normalOf};
 ghost use Rattle.rules.specs.Refusals.{longestText};
 ghost use Rattle.rows.specs.Laid.{laid};
 ghost use Rattle.entries.specs.SignWords.{cellsIn};
@@ -52,10 +53,13 @@ pub enum Measured {
 // "normalised text above 4,096 code points"
 const LONGEST_TEXT: usize = 4096;
 
-// What a shorter array of signs is cleared for.
+// A text up to these lengths has a shorter array of signs, which is cleared sooner.
 const LINE: usize = 64;
 
 const PARAGRAPH: usize = 512;
+
+// A code point becomes three at most.
+const LINE_NORMAL: usize = 3 * LINE;
 
 // The cells that go before a sign's own.
 const DOTS_46: u8 = 40;
@@ -217,16 +221,28 @@ fn transcribe_normal(text: &[u32], row: &mut [u8]) -> Answer
     transcribe_by(text, &mut signs, row)
 }
 
-// A print that normalising changes: through a copy, which has room for the longest text.
-fn transcribe_copy(print: &[u32], row: &mut [u8]) -> Answer
+// A print by its normalised text, which is made in what is lent for it.
+fn transcribe_in(print: &[u32], text: &mut [u32], row: &mut [u8]) -> Answer
+    requires { ⌜ (length (normalOf (now print)) ≤ longestText → length (normalOf (now print)) ≤ length (now text)) ⌝ }
     ensures { λ r. ⌜ Transcribed castilian (now (print .entry)) (now (row .entry)) r (now (row .exit)) ⌝ }
 {
-    let mut text = [0u32; LONGEST_TEXT];
-    let normalised = normal::normalise(print, &mut text);
+    let normalised = normal::normalise(print, text);
     match normalised {
         Normalised::Text(n) => transcribe_normal(&text[..n], row),
         Normalised::NoRoom(n) => Answer::TooLong(n),
     }
+}
+
+// A print that normalising changes: through a copy, which has room for the longest text, or for the most that a short print becomes.
+fn transcribe_copy(print: &[u32], row: &mut [u8]) -> Answer
+    ensures { λ r. ⌜ Transcribed castilian (now (print .entry)) (now (row .entry)) r (now (row .exit)) ⌝ }
+{
+    if print.len() <= LINE {
+        let mut text = [0u32; LINE_NORMAL];
+        return transcribe_in(print, &mut text, row);
+    }
+    let mut text = [0u32; LONGEST_TEXT];
+    transcribe_in(print, &mut text, row)
 }
 
 // Is this the answer to a text that the rules accept?

@@ -15,10 +15,10 @@ use Rattle.rules.proofs.States.{Past, Future}
 use Rattle.rules.proofs.Enumerations.{pasts, classes, futures, ways}
 use Rattle.rules.proofs.Sides.{caps-next, form-next, digit-next, rule, look, after}
 use Rattle.entries.specs.States as state
-use Rattle.entries.specs.Entries.{classPlaces, thenOf, usualStates, bits}
+use Rattle.entries.specs.Entries.{thenOf, usualStates, bits}
 use Rattle.turns.specs.Acts as act
 use Rattle.turns.specs.Deeds.{deeds}
-use Rattle.turns.specs.Stages.{stageAt, deedOf, goesOnUnder, settledBy, wayOf, silentAs, actOf}
+use Rattle.turns.specs.Stages.{stageAt, deedOf, settledBy, wayOf, silentAs, actOf}
 
 turn-right : Past → Class → Future → Bool
 turn-right p c f = eqb (settledBy (deedOf (stageAt p (look c f)) (classNumber c)) f) (actOf c (rule p c f) (stageAt (after p c) f))
@@ -90,24 +90,6 @@ usual-is s c f l e =
     both true true t = tt
     both true false t = t
     both false d t = t
-
--- UNDER A BAR: a digit that goes on there is what the table says too
-under-right : ℕ → ℕ → Bool
-under-right s c = not (goesOnUnder s c) || eqb (deedOf s c) act.digitUnder
-
-unders-right : T (below (λ s. below (under-right s) classPlaces) state.states)
-unfolding under-right goesOnUnder deedOf deeds
-unders-right = tt
-
-pub under-is : (s c : ℕ) (f : Future) → s < state.states → c < classPlaces → goesOnUnder s c ≡ true → act.digitUnder ≡ settledBy (deedOf s c) f
-unfolding under-right
-under-is s c f k l e =
-    let q : deedOf s c ≡ act.digitUnder =
-    eqb→eq (deedOf s c) act.digitUnder
-    (implies (goesOnUnder s c) (eqb (deedOf s c) act.digitUnder) (rw e tt)
-    (at-below (under-right s) classPlaces (at-below (λ s. below (under-right s) classPlaces) state.states unders-right s k) c l))
-    in
-    sym (settled-low act.digitUnder f (omega arith)) ∙ ap (λ (d : ℕ). settledBy d f) (sym q)
 
 -- WHAT A DEED SAYS. Every state is one of the list.
 stages-small : T (every2 pasts futures (λ p f. ltb (stageAt p f) state.states))

@@ -1,5 +1,5 @@
 -- `sign_of`: each arm gives the sign of its way. Assumes nothing.
-use mathlib.Core.Path.{_≡_, sym, ap, _∙_}
+use mathlib.Core.Path.{sym, ap, _∙_}
 use Prim.Native.Nat.{ℕ}
 use Rattle.entries.proofs.Keys.{chosen-rest}
 use Rattle.entries.specs.SignWords.{signOfOne, signOfTwo, signOfThree}

@@ -14,8 +14,7 @@ use Rattle.rules.proofs.Rows.{whole-row, good-reads}
 use Rattle.rules.proofs.Demands.{accepted-is-normal}
 use Rattle.normal.specs.Same.{TellsNormal}
 use Rattle.transcriber.specs.Promise.{Transcribed}
-use Rattle.transcriber.specs.Passes.{answerOf, outOf, acceptedBy}
-use Rattle.transcriber.specs.declared.Answer.{Answer}
+use Rattle.transcriber.specs.Passes.{answerOf, acceptedBy}
 use Rattle.transcriber.proofs.Answering.{accepted-good, refused-kept, carried, promised-long}
 use borrow.Author.Needs.{needs}
 use Rattle.transcriber.proofs.transcribe.Statement.{statement}
