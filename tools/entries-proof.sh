@@ -23,7 +23,7 @@ signs=$(awk -f tools/sign-list.awk)
 keys=$(printf '%s\n' "$signs" | awk -F '\t' -v part="$part" '$3 == part { print $2 }')
 [ -n "$keys" ] || { echo "entries-proof: the sign list has no code point of the part $part" >&2; exit 1; }
 count=$(printf '%s\n' "$keys" | awk 'END { print NR }')
-unfold='entryOf word thenOf usualStates bits markNumber sortIn castilian class isDigitCell ownCells lowerCells markOf dots'
+unfold='entryOf word thenOf usualsOf usualStates bits markNumber signOf sortIn castilian class isDigitCell ownCells lowerCells markOf dots'
 
 cat <<TEXT
 -- Printed by tools/print-entries-$part.sh: change that.
@@ -39,7 +39,8 @@ use Rattle.rules.specs.Sorts.{class, isDigitCell}
 use Rattle.rules.specs.Signs.{ownCells, lowerCells}
 use Rattle.rules.specs.Pairs.{markOf}
 use Rattle.rules.specs.Rows.{sortIn}
-use Rattle.entries.specs.Entries.{entryOf, word, thenOf, usualStates, bits, markNumber}
+use Rattle.entries.specs.SignWords.{signOf}
+use Rattle.entries.specs.Entries.{entryOf, word, thenOf, usualStates, bits, markNumber, usualsOf}
 use Rattle.entries.proofs.Keys.{none-of, rest-none}
 use Rattle.entries.proofs.list.$part.Statement.{statement}
 use Rattle.entries.proofs.list.$part.Tie as tie

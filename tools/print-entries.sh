@@ -23,6 +23,7 @@ use crate::BAR;
 use crate::BARRED;
 use crate::CAPITAL;
 use crate::CAPITALS;
+use crate::CLASS;
 use crate::COMMA;
 use crate::COUNT;
 use crate::DASH;
@@ -104,38 +105,45 @@ const IN_ANY: u64 = (USUAL << FREE)
     + IN_DASHED;
 
 // What a class is: its number, the state after it where it is written as usual, and the states in which it is.
-const AS_A_TO_J: u64 = A_TO_J as u64 + THEN * MIXED as u64 + IN_ANY
+const AS_A_TO_J: u64 = CLASS * A_TO_J as u64 + THEN * MIXED as u64 + IN_ANY
     - IN_NUMBER
     - IN_UNDER
     - IN_GUARDED;
 
-const AS_OTHER_SMALL: u64 = OTHER_SMALL as u64 + THEN * MIXED as u64 + IN_ANY;
+const AS_OTHER_SMALL: u64 = CLASS * OTHER_SMALL as u64 + THEN * MIXED as u64 + IN_ANY;
 
-const AS_CAPITAL: u64 = CAPITAL as u64 + THEN * CAPITALS as u64 + IN_CAPITALS;
+const AS_CAPITAL: u64 = CLASS * CAPITAL as u64 + THEN * CAPITALS as u64 + IN_CAPITALS;
 
-const AS_ONE: u64 = ONE as u64 + THEN * NUMBER as u64 + IN_NUMBER;
+const AS_ONE: u64 = CLASS * ONE as u64 + THEN * NUMBER as u64 + IN_NUMBER;
 
-const AS_OTHER_DIGIT: u64 = OTHER_DIGIT as u64 + THEN * NUMBER as u64 + IN_NUMBER;
+const AS_OTHER_DIGIT: u64 = CLASS * OTHER_DIGIT as u64 + THEN * NUMBER as u64 + IN_NUMBER;
 
-const AS_FULL_STOP: u64 = FULL_STOP as u64 + THEN * FREE as u64 + IN_ANY - IN_NUMBER - IN_LOWERED;
+const AS_FULL_STOP: u64 = CLASS * FULL_STOP as u64 + THEN * FREE as u64 + IN_ANY
+    - IN_NUMBER
+    - IN_LOWERED;
 
-const AS_COMMA: u64 = COMMA as u64 + THEN * FREE as u64 + IN_ANY - IN_NUMBER;
+const AS_COMMA: u64 = CLASS * COMMA as u64 + THEN * FREE as u64 + IN_ANY - IN_NUMBER;
 
-const AS_HYPHEN: u64 = HYPHEN as u64 + THEN * HYPHENED as u64 + IN_ANY - IN_HYPHENED - IN_DASHED;
+const AS_HYPHEN: u64 = CLASS * HYPHEN as u64 + THEN * HYPHENED as u64 + IN_ANY
+    - IN_HYPHENED
+    - IN_DASHED;
 
-const AS_DASH: u64 = DASH as u64 + THEN * DASHED as u64 + IN_ANY - IN_HYPHENED;
+const AS_DASH: u64 = CLASS * DASH as u64 + THEN * DASHED as u64 + IN_ANY - IN_HYPHENED;
 
-const AS_BAR: u64 = BAR as u64 + THEN * BARRED as u64 + IN_LOWERED;
+const AS_BAR: u64 = CLASS * BAR as u64 + THEN * BARRED as u64 + IN_LOWERED;
 
-const AS_MASCULINE: u64 = MASCULINE as u64 + THEN * FREE as u64 + IN_ORDINAL;
+const AS_MASCULINE: u64 = CLASS * MASCULINE as u64 + THEN * FREE as u64 + IN_ORDINAL;
 
-const AS_FEMININE: u64 = FEMININE as u64 + THEN * GUARDED as u64 + IN_ORDINAL;
+const AS_FEMININE: u64 = CLASS * FEMININE as u64 + THEN * GUARDED as u64 + IN_ORDINAL;
 
-const AS_PERCENT: u64 = PERCENT as u64 + THEN * FREE as u64 + IN_ANY;
+const AS_PERCENT: u64 = CLASS * PERCENT as u64 + THEN * FREE as u64 + IN_ANY;
 
-const AS_OTHER_SIGN: u64 = OTHER_SIGN as u64 + THEN * FREE as u64 + IN_ANY;
+const AS_OTHER_SIGN: u64 = CLASS * OTHER_SIGN as u64 + THEN * FREE as u64 + IN_ANY;
 
-const AS_UNLISTED: u64 = UNLISTED as u64 + THEN * FREE as u64;
+// A pair mark is another sign that is never written as usual: whether its pair allows it is asked first.
+const AS_PAIR_MARK: u64 = CLASS * OTHER_SIGN as u64 + THEN * FREE as u64;
+
+const AS_UNLISTED: u64 = CLASS * UNLISTED as u64 + THEN * FREE as u64;
 
 // A pair mark of kind 0; of kind k, MARK * 2 * k more.
 const OPENER: u64 = MARK;
@@ -145,10 +153,10 @@ const CLOSER: u64 = MARK * 2;
 // The code points of the list.
 TEXT
 
-# The word of each: on one line where its code has at most 100 columns, and otherwise a line for each field.
+# The word of each (all pair marks are of the class OTHER_SIGN): on one line where its code has at most 100 columns, and otherwise a line for each field.
 printf '%s\n' "$signs" | awk -F '\t' '
 {
-    word = "AS_" $4
+    word = $7 == "none" ? "AS_" $4 : "AS_PAIR_MARK"
     cells = $5 == "none" ? 0 : split($5, cell, "-")
     if (cells) word = word "|COUNT * " cells "|FIRST * D" cell[1]
     if (cells > 1) word = word "|SECOND * D" cell[2]

@@ -5,72 +5,59 @@ use mathlib.Core.List.{List, [], _∷_}
 use mathlib.Core.Option.{Option, none, some}
 use Prim.Native.Nat.{ℕ, _+_, _*_, _/_, _%_, _^_}
 use lib.Dec.{eqb}
-use lib.ListN.{length, getD}
+use lib.ListN.{getD}
 use Rattle.rules.specs.Sorts.{Sort, Table, Class, aToJ, otherSmall, capital, one, otherDigit, aStop, aComma, aHyphen, aDash, aBar, masculine, feminine, aPercent, otherSign, unlisted, class, classNumber}
 use Rattle.rules.specs.Signs.{ownCells, lowerCells}
 use Rattle.rules.specs.Pairs.{kinds, markOf}
 use Rattle.rules.specs.Rows.{sortIn}
+use Rattle.entries.specs.SignWords.{cellPlaces, signPlaces, signOf}
 use Rattle.entries.specs.States.{free, capitals, mixed, number, lowered, ordinal, barred, under, guarded, hyphened, dashed}
 
--- THE FIELDS, from the lowest: the class; how many cells; three cells; the cell of the lower digit; the pair mark; the state after it; the
--- states in which it is written as usual, a bit for each
+-- THE FIELDS, from the lowest: the states in which it is written as usual, a bit for each; the class; the pair mark; the cell of the lower digit; the sign,
+-- which is the cells with their count (`SignWords`); the state after it
+abbrev pub classAt : ℕ
+classAt = 65536
+
 abbrev pub classPlaces : ℕ
 classPlaces = 16
 
-abbrev pub countAt : ℕ
-countAt = 16
-
-abbrev pub firstAt : ℕ
-firstAt = 64
-
-abbrev pub secondAt : ℕ
-secondAt = 4096
-
-abbrev pub thirdAt : ℕ
-thirdAt = 262144
+abbrev pub markAt : ℕ
+markAt = 1048576
 
 abbrev pub lowerAt : ℕ
 lowerAt = 16777216
 
-abbrev pub markAt : ℕ
-markAt = 1073741824
+abbrev pub signAt : ℕ
+signAt = 4294967296
+
+abbrev pub firstAt : ℕ
+firstAt = 17179869184
 
 abbrev pub thenAt : ℕ
-thenAt = 17179869184
+thenAt = 1152921504606846976
 
-abbrev pub usualAt : ℕ
-usualAt = 274877906944
+-- is it written as usual in this state: with its own cells alone, and then the state is `thenIn`. (A state is below 16, and the bits above it are not its.)
+abbrev pub usualIn : ℕ → ℕ → Bool
+usualIn e s = eqb (e / 2 ^ (s % 64) % 2) 1
 
 abbrev pub classIn : ℕ → ℕ
-classIn e = e % classPlaces
-
-abbrev pub countIn : ℕ → ℕ
-countIn e = e / countAt % 4
-
-abbrev pub firstIn : ℕ → ℕ
-firstIn e = e / firstAt % 64
-
-abbrev pub secondIn : ℕ → ℕ
-secondIn e = e / secondAt % 64
-
-abbrev pub thirdIn : ℕ → ℕ
-thirdIn e = e / thirdAt % 64
-
-abbrev pub lowerIn : ℕ → ℕ
-lowerIn e = e / lowerAt % 64
+classIn e = e / classAt % classPlaces
 
 abbrev pub markIn : ℕ → ℕ
 markIn e = e / markAt % 16
 
+abbrev pub lowerIn : ℕ → ℕ
+lowerIn e = e / lowerAt % cellPlaces
+
+abbrev pub signIn : ℕ → ℕ
+signIn e = e / signAt % signPlaces
+
+-- the first cell of the sign
+abbrev pub firstIn : ℕ → ℕ
+firstIn e = e / firstAt % cellPlaces
+
 abbrev pub thenIn : ℕ → ℕ
-thenIn e = e / thenAt % 16
-
-abbrev pub usualsIn : ℕ → ℕ
-usualsIn e = e / usualAt
-
--- is it written as usual in this state: with its own cells alone, and then the state is `thenIn`. (There is room for 64 states.)
-abbrev pub usualIn : ℕ → ℕ → Bool
-usualIn e s = eqb (usualsIn e / 2 ^ (s % 64) % 2) 1
+thenIn e = e / thenAt
 
 -- AS USUAL. The state after a code point that is written with its own cells alone, as most are in most states. (U+2044 has no cell of its own,
 -- and none is written for it.)
@@ -129,12 +116,16 @@ unfoldable pub markNumber : Option (ℕ × Bool) → ℕ
 markNumber none = 0
 markNumber (some m) = 2 * (m .0) + cond (m .1) 1 2
 
+-- A pair mark is never written as usual: whether its pair allows it is asked first.
+unfoldable pub usualsOf : Sort → ℕ
+unfolding usualStates bits markNumber
+usualsOf s = cond (eqb (markNumber (markOf s)) 0) (bits (usualStates (class s))) 0
+
 unfoldable pub word : Sort → ℕ
-unfolding thenOf usualStates bits markNumber
+unfolding thenOf usualsOf markNumber signOf
 word s =
-    classNumber (class s) + countAt * length (ownCells s) + firstAt * getD (ownCells s) 0 0 + secondAt * getD (ownCells s) 1 0
-    + thirdAt * getD (ownCells s) 2 0 + lowerAt * getD (lowerCells s) 0 0 + markAt * markNumber (markOf s) + thenAt * thenOf (class s)
-    + usualAt * bits (usualStates (class s))
+    usualsOf s + classAt * classNumber (class s) + markAt * markNumber (markOf s) + lowerAt * getD (lowerCells s) 0 0
+    + signAt * signOf (ownCells s) + thenAt * thenOf (class s)
 
 -- the word of a code point in a profile's table
 unfoldable pub entryOf : Table → ℕ → ℕ

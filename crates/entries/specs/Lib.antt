@@ -1,3 +1,4 @@
 pub mod States
+pub mod SignWords
 pub mod Entries
 pub mod Chosen

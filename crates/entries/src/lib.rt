@@ -1,11 +1,13 @@
 // What a code point is to the transcriber: one word of named fields, found by one look-up (src/list.rt).
+// Its sign, the cells that it has by itself, is a word too (src/sign.rt).
 // A new field is a constant here and in specs/Entries.antt; a new state is one here and in specs/States.antt, and a row of the crate `turns`.
 ghost use mathlib.Core.Path.{_≡_};
 ghost use Prim.Native.Nat.{_<_, _≤_};
 ghost use Rattle.rules.specs.Castilian.{castilian};
-ghost use Rattle.entries.specs.Entries.{entryOf, classIn, countIn, firstIn, secondIn, thirdIn, lowerIn, markIn, thenIn, usualIn};
+ghost use Rattle.entries.specs.Entries.{entryOf, usualIn, thenIn, signIn, firstIn, lowerIn, classIn, markIn};
 
 mod list;
+pub mod sign;
 
 // The classes of code points: all that a rule asks of a neighbour (crates/rules/specs/Sorts.antt, `Class`).
 pub const A_TO_J: usize = 0;
@@ -61,34 +63,37 @@ pub const HYPHENED: usize = 9;
 
 pub const DASHED: usize = 10;
 
-// The fields of a word, from the lowest: where each stands, and how many values it has room for.
+// The fields of a word, from the lowest: where each stands, and how many values it has room for. What is asked of most code points stands where the
+// machine finds it at once: the states in which it is written as usual lowest, its sign in a half of its own, the state after it highest.
+const USUAL: u64 = 1;
+
+const CLASS: u64 = 65536;
+
 const CLASS_PLACES: u64 = 16;
 
-const COUNT: u64 = 16;
+const MARK: u64 = 1048576;
 
-const COUNT_PLACES: u64 = 4;
-
-const FIRST: u64 = 64;
-
-const SECOND: u64 = 4096;
-
-const THIRD: u64 = 262144;
+const MARK_PLACES: u64 = 16;
 
 const LOWER: u64 = 16777216;
 
 const CELL_PLACES: u64 = 64;
 
-const MARK: u64 = 1073741824;
+const SIGN: u64 = 4294967296;
 
-const MARK_PLACES: u64 = 16;
+const SIGN_PLACES: u64 = 1048576;
 
-const THEN: u64 = 17179869184;
+const COUNT: u64 = SIGN;
 
-const THEN_PLACES: u64 = 16;
+const FIRST: u64 = SIGN * 4;
 
-const USUAL: u64 = 274877906944;
+const SECOND: u64 = SIGN * 256;
 
-const STATE_PLACES: usize = 64;
+const THIRD: u64 = SIGN * 16384;
+
+const THEN: u64 = 1152921504606846976;
+
+const WORD_BITS: usize = 64;
 
 // Code points below this stand in one table that has no gaps worth speaking of: once compiled, the look-up is one read.
 const DENSE: u32 = 256;
@@ -104,36 +109,32 @@ pub fn entry_of(point: u32) -> u64
     }
 }
 
-// Its class.
-pub fn class_in(entry: u64) -> usize
-    ensures { λ r. ⌜ r ≡ classIn entry ⌝ }
+// Is it written as usual in this state: with its own cells alone? A pair mark never is. (A state is below 16, so that the remainder is the state.)
+pub fn is_usual(entry: u64, state: usize) -> bool
+    ensures { λ r. ⌜ r ≡ usualIn entry state ⌝ }
 {
-    (entry % CLASS_PLACES) as usize
+    (entry >> (state % WORD_BITS)) % 2 == 1
 }
 
-// How many cells it has by itself: at most three.
-pub fn count_in(entry: u64) -> usize
-    ensures { λ r. ⌜ r ≡ countIn entry ⌝ }
+// The state after it where it is written as usual.
+pub fn then_in(entry: u64) -> usize
+    ensures { λ r. ⌜ r ≡ thenIn entry ⌝ }
 {
-    (entry / COUNT % COUNT_PLACES) as usize
+    (entry / THEN) as usize
 }
 
+// Its own cells, with their count.
+pub fn sign_in(entry: u64) -> u32
+    ensures { λ r. ⌜ r ≡ signIn entry ⌝ }
+{
+    (entry / SIGN % SIGN_PLACES) as u32
+}
+
+// The first of them.
 pub fn first_in(entry: u64) -> u8
     ensures { λ r. ⌜ r ≡ firstIn entry ⌝ }
 {
     (entry / FIRST % CELL_PLACES) as u8
-}
-
-pub fn second_in(entry: u64) -> u8
-    ensures { λ r. ⌜ r ≡ secondIn entry ⌝ }
-{
-    (entry / SECOND % CELL_PLACES) as u8
-}
-
-pub fn third_in(entry: u64) -> u8
-    ensures { λ r. ⌜ r ≡ thirdIn entry ⌝ }
-{
-    (entry / THIRD % CELL_PLACES) as u8
 }
 
 // The cell of a lower digit; 0 where it is no digit.
@@ -143,23 +144,16 @@ pub fn lower_in(entry: u64) -> u8
     (entry / LOWER % CELL_PLACES) as u8
 }
 
+// Its class.
+pub fn class_in(entry: u64) -> usize
+    ensures { λ r. ⌜ r ≡ classIn entry ⌝ }
+{
+    (entry / CLASS % CLASS_PLACES) as usize
+}
+
 // 0 for no pair mark; 2k + 1 for the opener of kind k, 2k + 2 for its closer.
 pub fn mark_in(entry: u64) -> usize
     ensures { λ r. ⌜ r ≡ markIn entry ⌝ }
 {
     (entry / MARK % MARK_PLACES) as usize
-}
-
-// The state after it where it is written as usual.
-pub fn then_in(entry: u64) -> usize
-    ensures { λ r. ⌜ r ≡ thenIn entry ⌝ }
-{
-    (entry / THEN % THEN_PLACES) as usize
-}
-
-// Is it written as usual in this state: with its own cells alone? (A state is below 64, so that the remainder is the state.)
-pub fn is_usual(entry: u64, state: usize) -> bool
-    ensures { λ r. ⌜ r ≡ usualIn entry state ⌝ }
-{
-    (entry / USUAL >> (state % STATE_PLACES)) % 2 == 1
 }

@@ -5,6 +5,7 @@ use crate::BAR;
 use crate::BARRED;
 use crate::CAPITAL;
 use crate::CAPITALS;
+use crate::CLASS;
 use crate::COMMA;
 use crate::COUNT;
 use crate::DASH;
@@ -178,38 +179,45 @@ const IN_ANY: u64 = (USUAL << FREE)
     + IN_DASHED;
 
 // What a class is: its number, the state after it where it is written as usual, and the states in which it is.
-const AS_A_TO_J: u64 = A_TO_J as u64 + THEN * MIXED as u64 + IN_ANY
+const AS_A_TO_J: u64 = CLASS * A_TO_J as u64 + THEN * MIXED as u64 + IN_ANY
     - IN_NUMBER
     - IN_UNDER
     - IN_GUARDED;
 
-const AS_OTHER_SMALL: u64 = OTHER_SMALL as u64 + THEN * MIXED as u64 + IN_ANY;
+const AS_OTHER_SMALL: u64 = CLASS * OTHER_SMALL as u64 + THEN * MIXED as u64 + IN_ANY;
 
-const AS_CAPITAL: u64 = CAPITAL as u64 + THEN * CAPITALS as u64 + IN_CAPITALS;
+const AS_CAPITAL: u64 = CLASS * CAPITAL as u64 + THEN * CAPITALS as u64 + IN_CAPITALS;
 
-const AS_ONE: u64 = ONE as u64 + THEN * NUMBER as u64 + IN_NUMBER;
+const AS_ONE: u64 = CLASS * ONE as u64 + THEN * NUMBER as u64 + IN_NUMBER;
 
-const AS_OTHER_DIGIT: u64 = OTHER_DIGIT as u64 + THEN * NUMBER as u64 + IN_NUMBER;
+const AS_OTHER_DIGIT: u64 = CLASS * OTHER_DIGIT as u64 + THEN * NUMBER as u64 + IN_NUMBER;
 
-const AS_FULL_STOP: u64 = FULL_STOP as u64 + THEN * FREE as u64 + IN_ANY - IN_NUMBER - IN_LOWERED;
+const AS_FULL_STOP: u64 = CLASS * FULL_STOP as u64 + THEN * FREE as u64 + IN_ANY
+    - IN_NUMBER
+    - IN_LOWERED;
 
-const AS_COMMA: u64 = COMMA as u64 + THEN * FREE as u64 + IN_ANY - IN_NUMBER;
+const AS_COMMA: u64 = CLASS * COMMA as u64 + THEN * FREE as u64 + IN_ANY - IN_NUMBER;
 
-const AS_HYPHEN: u64 = HYPHEN as u64 + THEN * HYPHENED as u64 + IN_ANY - IN_HYPHENED - IN_DASHED;
+const AS_HYPHEN: u64 = CLASS * HYPHEN as u64 + THEN * HYPHENED as u64 + IN_ANY
+    - IN_HYPHENED
+    - IN_DASHED;
 
-const AS_DASH: u64 = DASH as u64 + THEN * DASHED as u64 + IN_ANY - IN_HYPHENED;
+const AS_DASH: u64 = CLASS * DASH as u64 + THEN * DASHED as u64 + IN_ANY - IN_HYPHENED;
 
-const AS_BAR: u64 = BAR as u64 + THEN * BARRED as u64 + IN_LOWERED;
+const AS_BAR: u64 = CLASS * BAR as u64 + THEN * BARRED as u64 + IN_LOWERED;
 
-const AS_MASCULINE: u64 = MASCULINE as u64 + THEN * FREE as u64 + IN_ORDINAL;
+const AS_MASCULINE: u64 = CLASS * MASCULINE as u64 + THEN * FREE as u64 + IN_ORDINAL;
 
-const AS_FEMININE: u64 = FEMININE as u64 + THEN * GUARDED as u64 + IN_ORDINAL;
+const AS_FEMININE: u64 = CLASS * FEMININE as u64 + THEN * GUARDED as u64 + IN_ORDINAL;
 
-const AS_PERCENT: u64 = PERCENT as u64 + THEN * FREE as u64 + IN_ANY;
+const AS_PERCENT: u64 = CLASS * PERCENT as u64 + THEN * FREE as u64 + IN_ANY;
 
-const AS_OTHER_SIGN: u64 = OTHER_SIGN as u64 + THEN * FREE as u64 + IN_ANY;
+const AS_OTHER_SIGN: u64 = CLASS * OTHER_SIGN as u64 + THEN * FREE as u64 + IN_ANY;
 
-const AS_UNLISTED: u64 = UNLISTED as u64 + THEN * FREE as u64;
+// A pair mark is another sign that is never written as usual: whether its pair allows it is asked first.
+const AS_PAIR_MARK: u64 = CLASS * OTHER_SIGN as u64 + THEN * FREE as u64;
+
+const AS_UNLISTED: u64 = CLASS * UNLISTED as u64 + THEN * FREE as u64;
 
 // A pair mark of kind 0; of kind k, MARK * 2 * k more.
 const OPENER: u64 = MARK;
@@ -219,7 +227,7 @@ const CLOSER: u64 = MARK * 2;
 // The code points of the list.
 const U0020: u64 = AS_OTHER_SIGN + COUNT * 1 + FIRST * D0; // space
 
-const U0021: u64 = AS_OTHER_SIGN + COUNT * 1 + FIRST * D235 + CLOSER + MARK * 2 * 1; // !
+const U0021: u64 = AS_PAIR_MARK + COUNT * 1 + FIRST * D235 + CLOSER + MARK * 2 * 1; // !
 
 const U0024: u64 = AS_OTHER_SIGN + COUNT * 2 + FIRST * D456 + SECOND * D234; // $
 
@@ -269,7 +277,7 @@ const U003D: u64 = AS_OTHER_SIGN + COUNT * 1 + FIRST * D2356; // =
 
 const U003E: u64 = AS_OTHER_SIGN + COUNT * 2 + FIRST * D46 + SECOND * D2; // >
 
-const U003F: u64 = AS_OTHER_SIGN + COUNT * 1 + FIRST * D26 + CLOSER; // ?
+const U003F: u64 = AS_PAIR_MARK + COUNT * 1 + FIRST * D26 + CLOSER; // ?
 
 const U0041: u64 = AS_CAPITAL + COUNT * 1 + FIRST * D1; // A
 
@@ -381,7 +389,7 @@ const U007B: u64 = AS_OTHER_SIGN + COUNT * 2 + FIRST * D5 + SECOND * D123; // {
 
 const U007D: u64 = AS_OTHER_SIGN + COUNT * 2 + FIRST * D456 + SECOND * D2; // }
 
-const U00A1: u64 = AS_OTHER_SIGN + COUNT * 1 + FIRST * D235 + OPENER + MARK * 2 * 1; // ¡
+const U00A1: u64 = AS_PAIR_MARK + COUNT * 1 + FIRST * D235 + OPENER + MARK * 2 * 1; // ¡
 
 const U00A2: u64 = AS_OTHER_SIGN + COUNT * 2 + FIRST * D45 + SECOND * D14; // ¢
 
@@ -391,13 +399,13 @@ const U00A5: u64 = AS_OTHER_SIGN + COUNT * 2 + FIRST * D456 + SECOND * D13456; /
 
 const U00AA: u64 = AS_FEMININE + COUNT * 1 + FIRST * D1; // ª
 
-const U00AB: u64 = AS_OTHER_SIGN + COUNT * 1 + FIRST * D236 + OPENER + MARK * 2 * 2; // «
+const U00AB: u64 = AS_PAIR_MARK + COUNT * 1 + FIRST * D236 + OPENER + MARK * 2 * 2; // «
 
 const U00BA: u64 = AS_MASCULINE + COUNT * 1 + FIRST * D135; // º
 
-const U00BB: u64 = AS_OTHER_SIGN + COUNT * 1 + FIRST * D236 + CLOSER + MARK * 2 * 2; // »
+const U00BB: u64 = AS_PAIR_MARK + COUNT * 1 + FIRST * D236 + CLOSER + MARK * 2 * 2; // »
 
-const U00BF: u64 = AS_OTHER_SIGN + COUNT * 1 + FIRST * D26 + OPENER; // ¿
+const U00BF: u64 = AS_PAIR_MARK + COUNT * 1 + FIRST * D26 + OPENER; // ¿
 
 const U00C1: u64 = AS_CAPITAL + COUNT * 1 + FIRST * D12356; // Á
 
@@ -429,9 +437,9 @@ const U00FC: u64 = AS_OTHER_SMALL + COUNT * 1 + FIRST * D1256; // ü
 
 const U2014: u64 = AS_DASH + COUNT * 2 + FIRST * D36 + SECOND * D36; // —
 
-const U2018: u64 = AS_OTHER_SIGN + COUNT * 2 + FIRST * D6 + SECOND * D236 + OPENER + MARK * 2 * 3; // ‘
+const U2018: u64 = AS_PAIR_MARK + COUNT * 2 + FIRST * D6 + SECOND * D236 + OPENER + MARK * 2 * 3; // ‘
 
-const U2019: u64 = AS_OTHER_SIGN + COUNT * 2 + FIRST * D6 + SECOND * D236 + CLOSER + MARK * 2 * 3; // ’
+const U2019: u64 = AS_PAIR_MARK + COUNT * 2 + FIRST * D6 + SECOND * D236 + CLOSER + MARK * 2 * 3; // ’
 
 const U2020: u64 = AS_OTHER_SIGN + COUNT * 2 + FIRST * D5 + SECOND * D1235; // †
 
@@ -443,9 +451,9 @@ const U20AC: u64 = AS_OTHER_SIGN + COUNT * 2 + FIRST * D456 + SECOND * D15; // �
 
 const U20BF: u64 = AS_OTHER_SIGN + COUNT * 2 + FIRST * D456 + SECOND * D12; // ₿
 
-const UE000: u64 = AS_OTHER_SIGN + COUNT * 1 + FIRST * D35 + OPENER + MARK * 2 * 4; // emphasis opens
+const UE000: u64 = AS_PAIR_MARK + COUNT * 1 + FIRST * D35 + OPENER + MARK * 2 * 4; // emphasis opens
 
-const UE001: u64 = AS_OTHER_SIGN + COUNT * 1 + FIRST * D35 + CLOSER + MARK * 2 * 4; // emphasis closes
+const UE001: u64 = AS_PAIR_MARK + COUNT * 1 + FIRST * D35 + CLOSER + MARK * 2 * 4; // emphasis closes
 
 // A code point below 256.
 pub fn low(point: u32) -> u64

@@ -60,18 +60,19 @@ module _ (p : Text) where
           let k : length (normalOf p) ≤ length lent = omega (arith, length-is) in
           rw (le-leb (length (normalOf p)) longestText j, le-leb (length (normalOf p)) (length lent) k) (ap made.Text e, f)
 
-  -- WHAT AN ANSWER TELLS, where there was room for the longest text
+  -- WHAT AN ANSWER TELLS, where there was room for any text that is not too long
   abbrev pub Tells : Normalised → List ℕ → List ℕ → Type 0
   Tells (made.Text n) lent new = (length (normalOf p) ≤ longestText) × (n ≡ length (normalOf p)) × (new ≡ laid (normalOf p) lent)
   Tells (made.NoRoom n) lent new = (longestText < length (normalOf p)) × (n ≡ reported (length (normalOf p)))
 
-  pub tells : (lent new : List ℕ) (r : Normalised) → longestText ≤ length lent → r ≡ normalisedOf p (length lent) → new ≡ copyOf p lent → Tells r lent new
+  pub tells : (lent new : List ℕ) (r : Normalised) → (length (normalOf p) ≤ longestText → length (normalOf p) ≤ length lent)
+      → r ≡ normalisedOf p (length lent) → new ≡ copyOf p lent → Tells r lent new
   unfolding normalisedOf copyOf
   tells lent new r room e f = ⊎-elim short long (le-or-lt (length (normalOf p)) longestText)
     where
       short : length (normalOf p) ≤ longestText → Tells r lent new
       short l =
-          let k : length (normalOf p) ≤ length lent = omega (arith, l, room) in
+          let k : length (normalOf p) ≤ length lent = room l in
           let q : fitsIn p (length lent) ≡ true = rw (le-leb (length (normalOf p)) longestText l, le-leb (length (normalOf p)) (length lent) k) in
           subst (λ (x : Normalised). Tells x lent new)
           (sym (e ∙ ap (λ (b : Bool). cond b (made.Text (length (normalOf p))) (made.NoRoom (reported (length (normalOf p))))) q))

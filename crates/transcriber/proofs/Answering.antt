@@ -1,10 +1,12 @@
--- From what the passes find to the promise. In order: the ends of `fitted` and `transcribe_normal`, over plain values; the answer to a normalised text
--- is the rules' (`carried`). For any table. Assumes nothing.
+-- From what the passes find to the promise. In order: the ends of `fitted` and `transcribe_by`, over plain values; what an answer tells; the answer to a
+-- normalised text is the rules' (`carried`). For any table. Assumes nothing.
 use mathlib.Core.Path.{_≡_, refl, sym, ap, _∙_, subst}
+use mathlib.Core.Bool.{Bool, true, false, cond, true≢false}
 use mathlib.Core.List.{List}
 use mathlib.Core.Logic.{⊎-elim}
 use Prim.Native.Nat.{ℕ, _≤_, _<_}
 use native.Mathlib.Omega.{arith}
+use lib.Dec.{leb}
 use lib.ListN.{length}
 use borrow.Author.Tests.{le-leb, lt-leb}
 use Rattle.rules.specs.Cells.{Text, Row}
@@ -19,7 +21,7 @@ use Rattle.rules.proofs.Rows.{whole-row}
 use Rattle.rules.proofs.Answers.{choose-le, choose-lt, by-verdict, answered, short-answer}
 use Rattle.rows.specs.Laid.{laid}
 use Rattle.transcriber.specs.Promise.{Transcribed, done, refused}
-use Rattle.transcriber.specs.Passes.{shown, measuredOf, fittedBy, writtenBy, answerOf, outOf}
+use Rattle.transcriber.specs.Passes.{shown, measuredOf, fittedBy, writtenBy, answerOf, outOf, acceptedBy}
 use Rattle.transcriber.specs.declared.Answer.{Answer}
 use Rattle.transcriber.specs.declared.Answer.the-variants.{Done, TooLong, NoSign, PairBroken, OutsideForm, SharesCells, NeedsRoom}
 use Rattle.transcriber.specs.declared.Measured.{Measured}
@@ -33,25 +35,61 @@ shown-cells (bad breaksPair i) m n e = let z : _≡_ {A = ℕ} 0 1 = cc in absur
 shown-cells (bad outsideForm i) m n e = let z : _≡_ {A = ℕ} 0 1 = cc in absurd (omega arith)
 shown-cells (bad sharesCells i) m n e = let z : _≡_ {A = ℕ} 0 1 = cc in absurd (omega arith)
 
+-- an answer that accepts is to an accepted text; one that does not leaves the row as it was
+shown-good : (v : Verdict) (m room : ℕ) → acceptedBy (fittedBy (shown v m) room) ≡ true → v ≡ good
+shown-good good m room e = refl
+shown-good (bad lacksSign i) m room e = absurd (true≢false (sym e))
+shown-good (bad breaksPair i) m room e = absurd (true≢false (sym e))
+shown-good (bad outsideForm i) m room e = absurd (true≢false (sym e))
+shown-good (bad sharesCells i) m room e = absurd (true≢false (sym e))
+
+shown-kept : (v : Verdict) (m : ℕ) (r : Row) (lent : List ℕ) → acceptedBy (fittedBy (shown v m) (length lent)) ≡ false → writtenBy (shown v m) r lent ≡ lent
+shown-kept good m r lent e = absurd (go (leb m (length lent)) e)
+  where
+    go : (b : Bool) → acceptedBy (cond b (Done m) (NeedsRoom m)) ≡ false → ⊥
+    go true e = true≢false e
+    go false e = true≢false e
+shown-kept (bad lacksSign i) m r lent e = refl
+shown-kept (bad breaksPair i) m r lent e = refl
+shown-kept (bad outsideForm i) m r lent e = refl
+shown-kept (bad sharesCells i) m r lent e = refl
+
+-- THE ENDS of `fitted`: n cells, which are this row
+module _ (n : ℕ) (r : Row) (lent : List ℕ) where
+  pub cramped : length lent < n → (NeedsRoom n ≡ fittedBy (Cells n) (length lent)) × (lent ≡ writtenBy (Cells n) r lent)
+  cramped l = rw (lt-leb n (length lent) l) (refl, refl)
+
+  pub fitting : n ≤ length lent → (k : ℕ) (new : List ℕ) → k ≡ n → new ≡ laid r lent
+      → (Done k ≡ fittedBy (Cells n) (length lent)) × (new ≡ writtenBy (Cells n) r lent)
+  fitting l k new e w = rw (le-leb n (length lent) l) (ap Done e, w)
+
 module _ (tb : Table) (t : Text) where
   pub measured-cells : (n : ℕ) → measuredOf tb t ≡ Cells n → (verdictOf tb t ≡ good) × (n ≡ length (whole-row tb t))
   unfolding measuredOf
   measured-cells n e = shown-cells (verdictOf tb t) (length (whole-row tb t)) n e
 
-  -- the ends of `fitted` and `transcribe_normal`
   module _ (lent : List ℕ) where
-    pub cramped : (n : ℕ) → measuredOf tb t ≡ Cells n → length lent < n → (NeedsRoom n ≡ answerOf tb t (length lent)) × (lent ≡ outOf tb t lent)
+    -- the ends of `transcribe_by`
+    pub measured-fitted : (n : ℕ) (r : Row) (a : Answer) (new : List ℕ) → Cells n ≡ measuredOf tb t → r ≡ whole-row tb t
+        → (a ≡ fittedBy (Cells n) (length lent)) × (new ≡ writtenBy (Cells n) r lent) → (a ≡ answerOf tb t (length lent)) × (new ≡ outOf tb t lent)
     unfolding answerOf outOf
-    cramped n e l = rw (e, lt-leb n (length lent) l) (refl, refl)
+    measured-fitted n r a new e q h = (
+      h .0 ∙ ap (λ (m : Measured). fittedBy m (length lent)) e,
+      h .1 ∙ ap (λ (x : Row). writtenBy (Cells n) x lent) q ∙ ap (λ (m : Measured). writtenBy m (whole-row tb t) lent) e,
+    )
 
-    pub fitting : (n r : ℕ) (new : List ℕ) → measuredOf tb t ≡ Cells n → n ≤ length lent → r ≡ length (whole-row tb t) → new ≡ laid (whole-row tb t) lent
-        → (Done r ≡ answerOf tb t (length lent)) × (new ≡ outOf tb t lent)
+    pub measured-refused : (a : Answer) → Refused a ≡ measuredOf tb t → (a ≡ answerOf tb t (length lent)) × (lent ≡ outOf tb t lent)
     unfolding answerOf outOf
-    fitting n r new e l c w = rw (e, le-leb n (length lent) l) (ap Done (c ∙ sym (measured-cells n e .1)), w)
+    measured-refused a e = (ap (λ (m : Measured). fittedBy m (length lent)) e, ap (λ (m : Measured). writtenBy m (whole-row tb t) lent) e)
 
-    pub measured-refused : (a : Answer) → measuredOf tb t ≡ Refused a → (a ≡ answerOf tb t (length lent)) × (lent ≡ outOf tb t lent)
-    unfolding answerOf outOf
-    measured-refused a e = rw e (refl, refl)
+    -- what an answer tells: that the text is accepted; or that it is refused, and nothing was written
+    pub accepted-good : acceptedBy (answerOf tb t (length lent)) ≡ true → verdictOf tb t ≡ good
+    unfolding answerOf measuredOf
+    accepted-good e = shown-good (verdictOf tb t) (length (whole-row tb t)) (length lent) e
+
+    pub refused-kept : acceptedBy (answerOf tb t (length lent)) ≡ false → outOf tb t lent ≡ lent
+    unfolding answerOf outOf measuredOf
+    refused-kept e = shown-kept (verdictOf tb t) (length (whole-row tb t)) (whole-row tb t) lent e
 
 -- THE PROMISE
 module _ (tb : Table) (p : Text) (lent : List ℕ) where

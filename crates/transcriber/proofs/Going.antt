@@ -4,7 +4,7 @@
 use mathlib.Core.Path.{_≡_, refl, sym, ap, _∙_, subst}
 use mathlib.Core.Bool.{Bool, true, false, _&&_, _||_, not, cond, true≢false}
 use mathlib.Core.List.{List, [], _∷_, _++_}
-use Prim.Native.Nat.{ℕ, _+_, _*_, _/_, _%_, _^_, _≤_, _<_}
+use Prim.Native.Nat.{ℕ, _+_, _*_, _/_, _%_, _≤_, _<_}
 use native.Mathlib.Numerals.{add-one}
 use lib.Dec.{T, eqb, eqb→eq}
 use lib.ListN.{length, getD, drop-of-length-le}
@@ -23,14 +23,15 @@ use Rattle.rules.proofs.Sides.{rule, after, outcome-cells, row-on, verdict-on}
 use Rattle.rules.proofs.Places.{past}
 use Rattle.rules.proofs.Rows.{whole-row, verdict-is}
 use Rattle.entries.specs.States as state
-use Rattle.entries.specs.Entries.{word, entryOf, classIn, countIn, thenIn, usualIn, thenOf, usualStates, bits, markNumber}
+use Rattle.entries.specs.SignWords.{cellsIn, signOf}
+use Rattle.entries.specs.Entries.{word, entryOf, classIn, thenIn, usualIn, thenOf, usualStates, bits, markNumber, usualsOf}
 use Rattle.entries.proofs.Keys.{at-every}
 use Rattle.entries.proofs.Facts.{Worded, worded}
 use Rattle.turns.specs.Acts as act
 use Rattle.turns.specs.Stages.{itemsFrom, futureAt, stageAt, deedOf, settledBy, wayOf, silentAs, actOf}
 use Rattle.turns.proofs.Ahead.{zero-unlisted, future-step}
-use Rattle.turns.proofs.Machine.{turn-is, usual-is, stage-small, wayNumber, isSingle, single-is, faultless, done-is, done-low}
-use Rattle.transcriber.specs.Passes.{ownBy, cellsBy}
+use Rattle.turns.proofs.Machine.{turn-is, usual-is, stage-small, wayNumber, faultless, done-is, done-low}
+use Rattle.transcriber.specs.Passes.{signBy, cellsBy}
 
 -- THE CELLS. Which classes a way is for; the rules give it to no other.
 allowed : Way → Class → Bool
@@ -76,20 +77,15 @@ written-right s w = not (allowed w (class s)) || same-row (cellsBy (wayOf w) (wo
 pub all-written-right : Sort → Bool
 all-written-right s = every (written-right s) (ways .members) && same-row (cellsBy (silentAs (class s)) (word s)) []
 
--- a class that may be written otherwise than as usual has one cell
-pub one-cell : Sort → Bool
-one-cell s = not (isSingle (class s)) || eqb (countIn (word s)) 1
-
 -- what a table must pass: its words have their fields, its signs their cells, and 0 has no sign
 pub record Held (tb : Table) : Type 0 where
   pub words : Worded tb
   pub zero : class (sortIn tb 0) ≡ unlisted
   pub written : (c : ℕ) → T (all-written-right (sortIn tb c))
-  pub single : (c : ℕ) → T (one-cell (sortIn tb c))
 
 pub held : Held castilian
-unfolding all-written-right one-cell isSingle written-right allowed same-row cellsBy ownBy wayOf silentAs word thenOf usualStates bits markNumber signCells ownCells lowerCells markOf class isDigitCell dots castilian
-held = record { words = worded; zero = zero-unlisted; written = λ c. at-every all-written-right castilian tt tt c; single = λ c. at-every one-cell castilian tt tt c }
+unfolding all-written-right written-right allowed same-row signBy cellsIn wayOf silentAs word thenOf usualsOf usualStates bits markNumber signOf signCells ownCells lowerCells markOf class isDigitCell dots castilian
+held = record { words = worded; zero = zero-unlisted; written = λ c. at-every all-written-right castilian tt tt c }
 
 module _ (tb : Table) (h : Held tb) where
   cells-by : (c : ℕ) (x : Outcome) → T (allowed-outcome x (class (sortIn tb c))) → faultless x ≡ true
@@ -136,23 +132,9 @@ module _ (tb : Table) (h : Held tb) where
         → thenIn (entryOf tb (getD text i 0)) * act.ways + act.bareWay ≡ settledBy (deedOf s (classIn (entryOf tb (getD text i 0)))) ahead
     usual-deed s l e =
         let c : ℕ = getD text i 0 in
-        let u : eqb (bits (usualStates (class sortHere)) / 2 ^ (s % 64) % 2) 1 ≡ true = ap (λ (o : ℕ). eqb (o / 2 ^ (s % 64) % 2) 1) (sym (h .words .usuals-are c)) ∙ e in
         ap (λ (n : ℕ). n * act.ways + act.bareWay) (h .words .then-is c)
-        ∙ sym (usual-is s (class sortHere) ahead l u)
+        ∙ sym (usual-is s (class sortHere) ahead l (h .words .usual-class c s l e))
         ∙ sym (ap (λ (k : ℕ). settledBy (deedOf s k) ahead) (h .words .class-is c))
-
-    -- what is not written as usual, and is no fault, has one cell of its own
-    pub odd-single : (s d : ℕ) → s < state.states → usualIn (entryOf tb (getD text i 0)) s ≡ false
-        → d ≡ settledBy (deedOf s (classIn (entryOf tb (getD text i 0)))) ahead → d < act.questions → countIn (entryOf tb (getD text i 0)) ≡ 1
-    unfolding entryOf one-cell
-    odd-single s d l e is-d low =
-        let c : ℕ = getD text i 0 in
-        let u : eqb (bits (usualStates (class sortHere)) / 2 ^ (s % 64) % 2) 1 ≡ false = ap (λ (o : ℕ). eqb (o / 2 ^ (s % 64) % 2) 1) (sym (h .words .usuals-are c)) ∙ e in
-        let q : settledBy (deedOf s (classNumber (class sortHere))) ahead < act.questions =
-        subst (λ (n : ℕ). n < act.questions) (is-d ∙ ap (λ (k : ℕ). settledBy (deedOf s k) ahead) (h .words .class-is c)) low
-        in
-        eqb→eq (countIn (word sortHere)) 1
-        (implies (isSingle (class sortHere)) (eqb (countIn (word sortHere)) 1) (single-is s (class sortHere) ahead l u q) (h .single c))
 
     -- a deed that is no fault: the state after it, and its cells
     module _ (d : ℕ) (is-d : d ≡ actHere) where

@@ -1,6 +1,6 @@
-pub mod Cells
+pub mod Joined
 pub mod Going
-pub mod Measuring
+pub mod Drawing
 pub mod Writing
 pub mod Answering
 pub mod Claims

@@ -1,9 +1,10 @@
--- What the inner functions promise: the cells of a sign by its way and its word; what a pass finds; the answer to a normalised text.
+-- What the inner functions promise: the sign of a word by its way; the cells of signs; what the first pass finds; the answer to a normalised text.
 -- Assumes nothing.
-use mathlib.Core.Bool.{cond}
-use mathlib.Core.List.{List, [], _∷_}
+use mathlib.Core.Bool.{Bool, true, false, cond}
+use mathlib.Core.List.{List, [], _∷_, _++_}
+use mathlib.Core.Path.{_≡_}
 use Prim.Native.Nat.{ℕ}
-use lib.Dec.{eqb, leb}
+use lib.Dec.{leb}
 use lib.ListN.{length}
 use Rattle.rules.specs.Cells.{Text, Row}
 use Rattle.rules.specs.Sorts.{Table}
@@ -11,21 +12,16 @@ use Rattle.rules.specs.Places.{lacksSign, breaksPair, outsideForm, sharesCells}
 use Rattle.rules.specs.Rows.{Verdict, good, bad, verdictOf}
 use Rattle.rules.proofs.Rows.{whole-row}
 use Rattle.entries.specs.Chosen.{choose}
-use Rattle.entries.specs.Entries.{countIn, firstIn, secondIn, thirdIn, lowerIn}
+use Rattle.entries.specs.SignWords.{cellsIn, signOfOne, signOfTwo, signOfThree}
+use Rattle.entries.specs.Entries.{signIn, firstIn, lowerIn}
 use Rattle.turns.specs.Acts as act
 use Rattle.rows.specs.Laid.{laid}
 use Rattle.transcriber.specs.declared.Answer.{Answer}
-use Rattle.transcriber.specs.declared.Answer.the-variants.{Done, NoSign, PairBroken, OutsideForm, SharesCells, NeedsRoom}
+use Rattle.transcriber.specs.declared.Answer.the-variants.{Done, TooLong, NoSign, PairBroken, OutsideForm, SharesCells, NeedsRoom}
 use Rattle.transcriber.specs.declared.Measured.{Measured}
 use Rattle.transcriber.specs.declared.Measured.the-variants.{Cells, Refused}
 
--- THE CELLS of a word by itself, by their count; of a sign, by its way
-abbrev pub counts : ℕ → List (ℕ × Row)
-counts e = (1, firstIn e ∷ []) ∷ (2, firstIn e ∷ secondIn e ∷ []) ∷ (3, firstIn e ∷ secondIn e ∷ thirdIn e ∷ []) ∷ []
-
-unfoldable pub ownBy : ℕ → Row
-ownBy e = choose (counts e) (countIn e) []
-
+-- THE SIGN of a word, by its way of writing: the cells before its own, and its own or the lower digit's
 abbrev dots46 : ℕ
 dots46 = 40
 
@@ -35,23 +31,25 @@ dots5 = 16
 abbrev dots3456 : ℕ
 dots3456 = 60
 
-abbrev pub waysOf : ℕ → List (ℕ × Row)
+abbrev pub noCell : ℕ
+noCell = 0
+
+abbrev pub waysOf : ℕ → List (ℕ × ℕ)
 waysOf e =
-    (act.bareWay, ownBy e) ∷ (act.oneCapitalWay, dots46 ∷ firstIn e ∷ []) ∷ (act.allCapitalsWay, dots46 ∷ dots46 ∷ firstIn e ∷ [])
-    ∷ (act.separatedWay, dots5 ∷ firstIn e ∷ []) ∷ (act.firstDigitWay, dots3456 ∷ firstIn e ∷ [])
-    ∷ (act.firstLowerWay, dots3456 ∷ lowerIn e ∷ []) ∷ (act.lowerWay, lowerIn e ∷ []) ∷ []
+    (act.bareWay, signIn e) ∷ (act.oneCapitalWay, signOfTwo dots46 (firstIn e)) ∷ (act.allCapitalsWay, signOfThree dots46 dots46 (firstIn e))
+    ∷ (act.separatedWay, signOfTwo dots5 (firstIn e)) ∷ (act.firstDigitWay, signOfTwo dots3456 (firstIn e))
+    ∷ (act.firstLowerWay, signOfTwo dots3456 (lowerIn e)) ∷ (act.lowerWay, signOfOne (lowerIn e)) ∷ []
 
-unfoldable pub cellsBy : ℕ → ℕ → Row
-cellsBy w e = choose (waysOf e) w []
+unfoldable pub signBy : ℕ → ℕ → ℕ
+signBy w e = choose (waysOf e) w noCell
 
--- how many they are where the word has one cell by itself
-abbrev pub widths : List (ℕ × ℕ)
-widths =
-    (act.bareWay, 1) ∷ (act.oneCapitalWay, 2) ∷ (act.allCapitalsWay, 3) ∷ (act.separatedWay, 2) ∷ (act.firstDigitWay, 2) ∷ (act.firstLowerWay, 2)
-    ∷ (act.lowerWay, 1) ∷ []
+abbrev pub cellsBy : ℕ → ℕ → Row
+cellsBy w e = cellsIn (signBy w e)
 
-unfoldable pub widthBy : ℕ → ℕ
-widthBy w = choose widths w 0
+-- the cells of signs, one behind another
+abbrev pub joined : List ℕ → Row
+joined [] = []
+joined (s ∷ ss) = cellsIn s ++ joined ss
 
 -- THE FIRST PASS
 abbrev pub faults : ℕ → List (ℕ × Answer)
@@ -71,7 +69,12 @@ shown (bad sharesCells i) n = Refused (SharesCells i)
 unfoldable pub measuredOf : Table → Text → Measured
 measuredOf tb t = shown (verdictOf tb t) (length (whole-row tb t))
 
--- THE ANSWER to a normalised text, and what the lent row then holds
+-- the signs that it leaves: where the text is accepted, their cells are its row
+abbrev pub Drawn : Measured → Table → Text → List ℕ → Type 0
+Drawn (Cells n) tb t ss = joined ss ≡ whole-row tb t
+Drawn (Refused a) tb t ss = Unit
+
+-- THE ANSWER to what the first pass finds, and to a normalised text, and what the lent row then holds
 abbrev pub fittedBy : Measured → ℕ → Answer
 fittedBy (Cells n) room = cond (leb n room) (Done n) (NeedsRoom n)
 fittedBy (Refused a) room = a
@@ -85,3 +88,13 @@ answerOf tb t room = fittedBy (measuredOf tb t) room
 
 unfoldable pub outOf : Table → Text → List ℕ → List ℕ
 outOf tb t lent = writtenBy (measuredOf tb t) (whole-row tb t) lent
+
+-- is it the answer to a text that the rules accept?
+abbrev pub acceptedBy : Answer → Bool
+acceptedBy (Done n) = true
+acceptedBy (TooLong n) = false
+acceptedBy (NoSign n) = false
+acceptedBy (PairBroken n) = false
+acceptedBy (OutsideForm n) = false
+acceptedBy (SharesCells n) = false
+acceptedBy (NeedsRoom n) = true

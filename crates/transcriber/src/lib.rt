@@ -1,8 +1,7 @@
 // Print to cells. `transcribe` is the public function; what it promises is specs/Promise.antt.
-// Two passes over the normalised text: `measure` counts the cells or finds the first refusal, `write` writes. So nothing is written before
-// all is known to fit.
+// Two passes: `draw` finds the sign of each code point and counts the cells, or finds the first refusal; `write` writes the signs. So nothing is written
+// before all is known to fit, and no code point is looked up twice.
 use entries::FREE;
-use entries::UNDER;
 use normal::Normalised;
 use pairs::Pairs;
 use turns::ALL_CAPITALS;
@@ -18,15 +17,14 @@ use turns::SEPARATED;
 use turns::WAYS;
 ghost use mathlib.Core.Path.{_≡_};
 ghost use Prim.Native.Nat.{_≤_};
-ghost use lib.ListN.{length};
+ghost use lib.ListN.{length, take};
 ghost use Rattle.rules.specs.Castilian.{castilian};
-ghost use Rattle.rules.specs.Rows.{good, verdictOf};
 ghost use Rattle.rules.specs.Normal.{normalOf};
 ghost use Rattle.rules.specs.Refusals.{longestText};
-ghost use Rattle.rules.proofs.Rows.{whole-row};
 ghost use Rattle.rows.specs.Laid.{laid};
+ghost use Rattle.entries.specs.SignWords.{cellsIn};
 ghost use Rattle.transcriber.specs.Promise.{Transcribed};
-ghost use Rattle.transcriber.specs.Passes.{ownBy, cellsBy, widthBy, faultBy, measuredOf, answerOf, outOf};
+ghost use Rattle.transcriber.specs.Passes.{signBy, joined, faultBy, measuredOf, Drawn, fittedBy, writtenBy, answerOf, outOf, acceptedBy};
 
 // The answer. `Done` has the count of cells written; any other is a refusal, and the lent row is then as it was. Paper 01's number and second
 // number for each are given by `Promise.refusalOf`.
@@ -55,6 +53,14 @@ pub enum Measured {
 // "normalised text above 4,096 code points"
 const LONGEST_TEXT: usize = 4096;
 
+// A text up to these lengths has a shorter array of signs, which is cleared sooner.
+const LINE: usize = 64;
+
+const PARAGRAPH: usize = 512;
+
+// A code point becomes three at most.
+const LINE_NORMAL: usize = 3 * LINE;
+
 // The cells that go before a sign's own.
 const DOTS_46: u8 = 40;
 
@@ -62,81 +68,22 @@ const DOTS_5: u8 = 16;
 
 const DOTS_3456: u8 = 60;
 
-// Writes a code point's own cells at the front of what it is lent.
-fn put_own(row: &mut [u8], entry: u64) -> usize
-    requires { ⌜ length (ownBy entry) ≤ length (now row) ⌝ }
-    ensures { λ r. ⌜ (r ≡ length (ownBy entry)) × (now (row .exit) ≡ laid (ownBy entry) (now (row .entry))) ⌝ }
-{
-    let count = entries::count_in(entry);
-    if count == 0 {
-        return 0;
-    }
-    row[0] = entries::first_in(entry);
-    if count == 1 {
-        return 1;
-    }
-    row[1] = entries::second_in(entry);
-    if count == 2 {
-        return 2;
-    }
-    row[2] = entries::third_in(entry);
-    3
-}
+// The sign of a code point that has a cell of its own and is written without: the full stop of an ordinal.
+const NO_CELL: u32 = 0;
 
-// Writes one sign at the front of what it is lent.
-fn put_sign(row: &mut [u8], way: usize, entry: u64) -> usize
-    requires { ⌜ length (cellsBy way entry) ≤ length (now row) ⌝ }
-    ensures { λ r. ⌜ (r ≡ length (cellsBy way entry)) × (now (row .exit) ≡ laid (cellsBy way entry) (now (row .entry))) ⌝ }
+// The sign of a code point that is written in this way.
+fn sign_of(way: usize, entry: u64) -> u32
+    ensures { λ r. ⌜ r ≡ signBy way entry ⌝ }
 {
     match way {
-        BARE => put_own(row, entry),
-        ONE_CAPITAL => {
-            row[0] = DOTS_46;
-            row[1] = entries::first_in(entry);
-            2
-        }
-        ALL_CAPITALS => {
-            row[0] = DOTS_46;
-            row[1] = DOTS_46;
-            row[2] = entries::first_in(entry);
-            3
-        }
-        SEPARATED => {
-            row[0] = DOTS_5;
-            row[1] = entries::first_in(entry);
-            2
-        }
-        FIRST_DIGIT => {
-            row[0] = DOTS_3456;
-            row[1] = entries::first_in(entry);
-            2
-        }
-        FIRST_LOWER => {
-            row[0] = DOTS_3456;
-            row[1] = entries::lower_in(entry);
-            2
-        }
-        LOWER => {
-            row[0] = entries::lower_in(entry);
-            1
-        }
-        _ => 0,
-    }
-}
-
-// How many cells `put_sign` writes for a code point that has one cell of its own, as all have that are not written as usual.
-fn width_of(way: usize) -> usize
-    ensures { λ r. ⌜ (r ≡ widthBy way) × (r ≤ 3) ⌝ }
-{
-    match way {
-        BARE => 1,
-        ONE_CAPITAL => 2,
-        ALL_CAPITALS => 3,
-        SEPARATED => 2,
-        FIRST_DIGIT => 2,
-        FIRST_LOWER => 2,
-        LOWER => 1,
-        _ => 0,
+        BARE => entries::sign_in(entry),
+        ONE_CAPITAL => entries::sign::two_cells(DOTS_46, entries::first_in(entry)),
+        ALL_CAPITALS => entries::sign::three_cells(DOTS_46, DOTS_46, entries::first_in(entry)),
+        SEPARATED => entries::sign::two_cells(DOTS_5, entries::first_in(entry)),
+        FIRST_DIGIT => entries::sign::two_cells(DOTS_3456, entries::first_in(entry)),
+        FIRST_LOWER => entries::sign::two_cells(DOTS_3456, entries::lower_in(entry)),
+        LOWER => entries::sign::one_cell(entries::lower_in(entry)),
+        _ => NO_CELL,
     }
 }
 
@@ -151,10 +98,11 @@ fn fault_of(deed: usize, place: usize) -> Answer
     }
 }
 
-// The first pass: the count of cells, or the first refusal. In both passes what follows a place is read only where the table has a question.
-fn measure(text: &[u32]) -> Measured
-    requires { ⌜ length (now text) ≤ longestText ⌝ }
-    ensures { λ r. ⌜ r ≡ measuredOf castilian (now (text .entry)) ⌝ }
+// The first pass: the sign of each code point, and the count of all their cells; or the first refusal. What follows a place is read only where the
+// table has a question. (A pair mark is never written as usual, so the usual way need not ask for one.)
+fn draw(text: &[u32], signs: &mut [u32]) -> Measured
+    requires { ⌜ (length (now text) ≤ longestText) × (length (now text) ≤ length (now signs)) ⌝ }
+    ensures { λ r. ⌜ (r ≡ measuredOf castilian (now (text .entry))) × Drawn r castilian (now (text .entry)) (take (length (now (text .entry))) (now (signs .exit))) ⌝ }
 {
     let mut opened: usize = 0;
     let mut state: usize = FREE;
@@ -162,20 +110,19 @@ fn measure(text: &[u32]) -> Measured
     let mut i: usize = 0;
     while i < text.len() {
         let entry = entries::entry_of(text[i]);
-        let mark = entries::mark_in(entry);
-        if mark != 0 {
-            let Pairs::Stand(now_open) = pairs::pairs_after(opened, mark) else {
-                return Measured::Refused(Answer::PairBroken(i));
-            };
-            opened = now_open;
-        }
         if entries::is_usual(entry, state) {
-            n = n + entries::count_in(entry);
+            let sign = entries::sign_in(entry);
+            signs[i] = sign;
+            n = n + entries::sign::count_of(sign);
             state = entries::then_in(entry);
-        } else if turns::goes_on_under(state, entries::class_in(entry)) {
-            n = n + 1;
-            state = UNDER;
         } else {
+            let mark = entries::mark_in(entry);
+            if mark != 0 {
+                let Pairs::Stand(now_open) = pairs::pairs_after(opened, mark) else {
+                    return Measured::Refused(Answer::PairBroken(i));
+                };
+                opened = now_open;
+            }
             let told = turns::deed_of(state, entries::class_in(entry));
             let deed = if told < QUESTIONS {
                 told
@@ -185,7 +132,9 @@ fn measure(text: &[u32]) -> Measured
             if QUESTIONS <= deed {
                 return Measured::Refused(fault_of(deed, i));
             }
-            n = n + width_of(deed % WAYS);
+            let sign = sign_of(deed % WAYS, entry);
+            signs[i] = sign;
+            n = n + entries::sign::count_of(sign);
             state = deed / WAYS;
         }
         i += 1;
@@ -196,69 +145,118 @@ fn measure(text: &[u32]) -> Measured
     Measured::Refused(Answer::PairBroken(i))
 }
 
-// The second pass: "Each sign goes straight to its own stretch of the lent row".
-fn write(text: &[u32], row: &mut [u8]) -> usize
-    requires { ⌜ (verdictOf castilian (now text) ≡ good) × (length (whole-row castilian (now text)) ≤ length (now row)) ⌝ }
-    ensures { λ r. ⌜ (r ≡ length (whole-row castilian (now (text .entry)))) × (now (row .exit) ≡ laid (whole-row castilian (now (text .entry))) (now (row .entry))) ⌝ }
+// Writes the cells of one sign at the front of what it is lent. Most signs have one.
+fn put_cells(row: &mut [u8], sign: u32) -> usize
+    requires { ⌜ length (cellsIn sign) ≤ length (now row) ⌝ }
+    ensures { λ r. ⌜ (r ≡ length (cellsIn sign)) × (now (row .exit) ≡ laid (cellsIn sign) (now (row .entry))) ⌝ }
 {
-    let mut state: usize = FREE;
+    let count = entries::sign::count_of(sign);
+    if count == 1 {
+        row[0] = entries::sign::first_of(sign);
+        return 1;
+    }
+    if count == 0 {
+        return 0;
+    }
+    row[0] = entries::sign::first_of(sign);
+    row[1] = entries::sign::second_of(sign);
+    if count == 2 {
+        return 2;
+    }
+    row[2] = entries::sign::third_of(sign);
+    3
+}
+
+// The second pass: "Each sign goes straight to its own stretch of the lent row".
+fn write(signs: &[u32], row: &mut [u8]) -> usize
+    requires { ⌜ length (joined (now signs)) ≤ length (now row) ⌝ }
+    ensures { λ r. ⌜ (r ≡ length (joined (now (signs .entry)))) × (now (row .exit) ≡ laid (joined (now (signs .entry))) (now (row .entry))) ⌝ }
+{
     let mut n: usize = 0;
     let mut place: usize = 0;
-    while place < text.len() {
-        let entry = entries::entry_of(text[place]);
-        if entries::is_usual(entry, state) {
-            n = n + put_own(&mut row[n..], entry);
-            state = entries::then_in(entry);
-        } else if turns::goes_on_under(state, entries::class_in(entry)) {
-            n = n + put_own(&mut row[n..], entry);
-            state = UNDER;
-        } else {
-            let told = turns::deed_of(state, entries::class_in(entry));
-            let deed = if told < QUESTIONS {
-                told
-            } else {
-                turns::settled(text, place + 1, told)
-            };
-            n = n + put_sign(&mut row[n..], deed % WAYS, entry);
-            state = deed / WAYS;
-        }
+    while place < signs.len() {
+        n = n + put_cells(&mut row[n..], signs[place]);
         place += 1;
     }
     n
 }
 
-// A text of n cells, written if they fit.
-fn fitted(text: &[u32], row: &mut [u8], n: usize) -> Answer
-    requires { ⌜ measuredOf castilian (now text) ≡ Measured.Cells n ⌝ }
-    ensures { λ r. ⌜ (r ≡ answerOf castilian (now (text .entry)) (length (now (row .entry)))) × (now (row .exit) ≡ outOf castilian (now (text .entry)) (now (row .entry))) ⌝ }
+// Signs of n cells, written if they fit.
+fn fitted(signs: &[u32], row: &mut [u8], n: usize) -> Answer
+    requires { ⌜ n ≡ length (joined (now signs)) ⌝ }
+    ensures { λ r. ⌜ (r ≡ fittedBy (Measured.Cells n) (length (now (row .entry)))) × (now (row .exit) ≡ writtenBy (Measured.Cells n) (joined (now (signs .entry))) (now (row .entry))) ⌝ }
 {
     if row.len() < n {
         return Answer::NeedsRoom(n);
     }
-    Answer::Done(write(text, row))
+    Answer::Done(write(signs, row))
 }
 
-// A normalised text.
-fn transcribe_normal(text: &[u32], row: &mut [u8]) -> Answer
-    requires { ⌜ length (now text) ≤ longestText ⌝ }
+// A normalised text, with room for a sign for each of its code points.
+fn transcribe_by(text: &[u32], signs: &mut [u32], row: &mut [u8]) -> Answer
+    requires { ⌜ (length (now text) ≤ longestText) × (length (now text) ≤ length (now signs)) ⌝ }
     ensures { λ r. ⌜ (r ≡ answerOf castilian (now (text .entry)) (length (now (row .entry)))) × (now (row .exit) ≡ outOf castilian (now (text .entry)) (now (row .entry))) ⌝ }
 {
-    let measured = measure(text);
+    let measured = draw(text, signs);
     match measured {
-        Measured::Cells(n) => fitted(text, row, n),
+        Measured::Cells(n) => fitted(&signs[..text.len()], row, n),
         Measured::Refused(answer) => answer,
     }
 }
 
-// A print that normalising changes: through a copy, which has room for the longest text.
-fn transcribe_copy(print: &[u32], row: &mut [u8]) -> Answer
+// A normalised text. A short one has a short array of signs cleared for it.
+fn transcribe_normal(text: &[u32], row: &mut [u8]) -> Answer
+    requires { ⌜ length (now text) ≤ longestText ⌝ }
+    ensures { λ r. ⌜ (r ≡ answerOf castilian (now (text .entry)) (length (now (row .entry)))) × (now (row .exit) ≡ outOf castilian (now (text .entry)) (now (row .entry))) ⌝ }
+{
+    if text.len() <= LINE {
+        let mut signs = [0u32; LINE];
+        return transcribe_by(text, &mut signs, row);
+    }
+    if text.len() <= PARAGRAPH {
+        let mut signs = [0u32; PARAGRAPH];
+        return transcribe_by(text, &mut signs, row);
+    }
+    let mut signs = [0u32; LONGEST_TEXT];
+    transcribe_by(text, &mut signs, row)
+}
+
+// A print by its normalised text, which is made in what is lent for it.
+fn transcribe_in(print: &[u32], text: &mut [u32], row: &mut [u8]) -> Answer
+    requires { ⌜ (length (normalOf (now print)) ≤ longestText → length (normalOf (now print)) ≤ length (now text)) ⌝ }
     ensures { λ r. ⌜ Transcribed castilian (now (print .entry)) (now (row .entry)) r (now (row .exit)) ⌝ }
 {
-    let mut text = [0u32; LONGEST_TEXT];
-    let normalised = normal::normalise(print, &mut text);
+    let normalised = normal::normalise(print, text);
     match normalised {
         Normalised::Text(n) => transcribe_normal(&text[..n], row),
         Normalised::NoRoom(n) => Answer::TooLong(n),
+    }
+}
+
+// A print that normalising changes: through a copy, which has room for the longest text, or for the most that a short print becomes.
+fn transcribe_copy(print: &[u32], row: &mut [u8]) -> Answer
+    ensures { λ r. ⌜ Transcribed castilian (now (print .entry)) (now (row .entry)) r (now (row .exit)) ⌝ }
+{
+    if print.len() <= LINE {
+        let mut text = [0u32; LINE_NORMAL];
+        return transcribe_in(print, &mut text, row);
+    }
+    let mut text = [0u32; LONGEST_TEXT];
+    transcribe_in(print, &mut text, row)
+}
+
+// Is this the answer to a text that the rules accept?
+fn accepts(answer: Answer) -> bool
+    ensures { λ r. ⌜ r ≡ acceptedBy answer ⌝ }
+{
+    match answer {
+        Answer::Done(n) => true,
+        Answer::TooLong(n) => false,
+        Answer::NoSign(n) => false,
+        Answer::PairBroken(n) => false,
+        Answer::OutsideForm(n) => false,
+        Answer::SharesCells(n) => false,
+        Answer::NeedsRoom(n) => true,
     }
 }
 
@@ -271,14 +269,12 @@ pub fn transcribe(print: &[u32], row: &mut [u8]) -> Answer
     if LONGEST_TEXT < print.len() {
         return Answer::TooLong(normal::normal_length(print));
     }
-    let measured = measure(print);
-    match measured {
-        Measured::Cells(n) => fitted(print, row, n),
-        Measured::Refused(answer) => {
-            if normal::is_normal(print) {
-                return answer;
-            }
-            transcribe_copy(print, row)
-        }
+    let answer = transcribe_normal(print, row);
+    if accepts(answer) {
+        return answer;
     }
+    if normal::is_normal(print) {
+        return answer;
+    }
+    transcribe_copy(print, row)
 }

@@ -6,8 +6,8 @@ use mathlib.Core.List.{List, [], _∷_}
 use Prim.Native.Nat.{ℕ, _+_, _*_, _/_, _%_, _^_, _<_}
 use native.Mathlib.Omega.{arith}
 use lib.Dec.{T, eqb, ltb, eqb→eq, ltb→lt}
-use borrow.Author.Tests.{ne-eqb, lt-ltb}
-use Rattle.rules.specs.Sorts.{Class, aToJ, capital, aStop, aComma, classNumber, _is_, isDigit, isOrdinal}
+use borrow.Author.Tests.{ne-eqb}
+use Rattle.rules.specs.Sorts.{Class, classNumber}
 use Rattle.rules.specs.Signs.{Way}
 use Rattle.rules.specs.Places.{lacksSign, breaksPair, outsideForm, sharesCells, Outcome, fault, silent, sign}
 use Rattle.rules.proofs.Finite.{below, at-below, every, every2, at2, every3, at3, implies, hold, holds, Hold}
@@ -15,10 +15,10 @@ use Rattle.rules.proofs.States.{Past, Future}
 use Rattle.rules.proofs.Enumerations.{pasts, classes, futures, ways}
 use Rattle.rules.proofs.Sides.{caps-next, form-next, digit-next, rule, look, after}
 use Rattle.entries.specs.States as state
-use Rattle.entries.specs.Entries.{classPlaces, thenOf, usualStates, bits}
+use Rattle.entries.specs.Entries.{thenOf, usualStates, bits}
 use Rattle.turns.specs.Acts as act
 use Rattle.turns.specs.Deeds.{deeds}
-use Rattle.turns.specs.Stages.{stageAt, deedOf, goesOnUnder, settledBy, wayOf, silentAs, actOf}
+use Rattle.turns.specs.Stages.{stageAt, deedOf, settledBy, wayOf, silentAs, actOf}
 
 turn-right : Past → Class → Future → Bool
 turn-right p c f = eqb (settledBy (deedOf (stageAt p (look c f)) (classNumber c)) f) (actOf c (rule p c f) (stageAt (after p c) f))
@@ -71,7 +71,7 @@ usuals-right : T (below (λ s. every (usual-right s) (classes .members)) state.s
 unfolding usual-right bits usualStates thenOf deedOf deeds
 usuals-right = tt
 
-pub usual-is : (s : ℕ) (c : Class) (f : Future) → s < state.states → eqb (bits (usualStates c) / 2 ^ (s % 64) % 2) 1 ≡ true
+pub usual-is : (s : ℕ) (c : Class) (f : Future) → s < state.states → bits (usualStates c) / 2 ^ (s % 64) % 2 ≡ 1
     → settledBy (deedOf s (classNumber c)) f ≡ thenOf c * act.ways + act.bareWay
 unfolding usual-right
 usual-is s c f l e =
@@ -90,44 +90,6 @@ usual-is s c f l e =
     both true true t = tt
     both true false t = t
     both false d t = t
-
--- UNDER A BAR: a digit that goes on there is what the table says too
-under-right : ℕ → ℕ → Bool
-under-right s c = not (goesOnUnder s c) || eqb (deedOf s c) act.digitUnder
-
-unders-right : T (below (λ s. below (under-right s) classPlaces) state.states)
-unfolding under-right goesOnUnder deedOf deeds
-unders-right = tt
-
-pub under-is : (s c : ℕ) (f : Future) → s < state.states → c < classPlaces → goesOnUnder s c ≡ true → act.digitUnder ≡ settledBy (deedOf s c) f
-unfolding under-right
-under-is s c f k l e =
-    let q : deedOf s c ≡ act.digitUnder =
-    eqb→eq (deedOf s c) act.digitUnder
-    (implies (goesOnUnder s c) (eqb (deedOf s c) act.digitUnder) (rw e tt)
-    (at-below (under-right s) classPlaces (at-below (λ s. below (under-right s) classPlaces) state.states unders-right s k) c l))
-    in
-    sym (settled-low act.digitUnder f (omega arith)) ∙ ap (λ (d : ℕ). settledBy d f) (sym q)
-
--- OTHERWISE: what is not written as usual and is no fault is of one of these classes, each of which has one cell of its own
-unfoldable pub isSingle : Class → Bool
-isSingle c = c is aToJ || c is capital || isDigit c || c is aStop || c is aComma || isOrdinal c
-
-single-right : ℕ → Class → Future → Bool
-single-right s c f =
-    not (not (eqb (bits (usualStates c) / 2 ^ (s % 64) % 2) 1) && ltb (settledBy (deedOf s (classNumber c)) f) act.questions) || isSingle c
-
-singles-right : T (below (λ s. every2 classes futures (single-right s)) state.states)
-unfolding single-right isSingle bits usualStates settledBy deedOf deeds
-singles-right = tt
-
-pub single-is : (s : ℕ) (c : Class) (f : Future) → s < state.states → eqb (bits (usualStates c) / 2 ^ (s % 64) % 2) 1 ≡ false
-    → settledBy (deedOf s (classNumber c)) f < act.questions → T (isSingle c)
-unfolding single-right
-single-is s c f l u q =
-    implies (not (eqb (bits (usualStates c) / 2 ^ (s % 64) % 2) 1) && ltb (settledBy (deedOf s (classNumber c)) f) act.questions) (isSingle c)
-    (rw (u, lt-ltb (settledBy (deedOf s (classNumber c)) f) act.questions q) tt)
-    (at2 classes futures (single-right s) (at-below (λ s. every2 classes futures (single-right s)) state.states singles-right s l) c f)
 
 -- WHAT A DEED SAYS. Every state is one of the list.
 stages-small : T (every2 pasts futures (λ p f. ltb (stageAt p f) state.states))

@@ -1,12 +1,12 @@
 -- What the functions of this crate promise, in the rules' words. In order: what stands at and from a place of a text; the state of a place, from
 -- what stands before it and from it on; the deed there. Past, future and `rule` are those of the rules' proofs (crates/rules/proofs/Sides.antt):
 -- inner promises may speak of them, the public one does not. Assumes nothing.
-use mathlib.Core.Bool.{Bool, false, _&&_, _||_, cond}
+use mathlib.Core.Bool.{Bool, false, _||_, cond}
 use mathlib.Core.List.{List}
 use Prim.Native.Nat.{ℕ, _+_, _*_, _%_}
 use lib.Dec.{eqb}
 use lib.ListN.{drop, getD}
-use Rattle.rules.specs.Sorts.{Item, Table, Class, aToJ, otherSmall, capital, otherDigit, aStop, aBar, class, classNumber, _is_, isDigit, isOrdinal}
+use Rattle.rules.specs.Sorts.{Item, Table, Class, aToJ, otherSmall, capital, aStop, aBar, class, _is_, isDigit, isOrdinal}
 use Rattle.rules.specs.Signs.{Way, bare, oneCapital, allCapitals, separated, firstDigit, firstLower, lower, denominator, ordinalMark, inside}
 use Rattle.rules.specs.Places.{lacksSign, breaksPair, outsideForm, sharesCells, Outcome, fault, silent, sign}
 use Rattle.rules.specs.Rows.{sortIn, itemsIn}
@@ -59,10 +59,6 @@ stageAt past-percent f = state.free
 unfoldable pub deedOf : ℕ → ℕ → ℕ
 unfolding deeds
 deedOf s c = getD deeds (s % 16 * 16 + c % 16) act.noSign
-
--- a digit other than 1 that goes on under the bar of a fraction, by its class and the state
-unfoldable pub goesOnUnder : ℕ → ℕ → Bool
-goesOnUnder s c = eqb c (classNumber otherDigit) && (eqb s state.barred || eqb s state.under)
 
 -- the questions, decided by what follows
 unfoldable pub settledBy : ℕ → Future → ℕ

@@ -12,7 +12,6 @@ use entries::LOWERED;
 use entries::MIXED;
 use entries::NUMBER;
 use entries::ORDINAL;
-use entries::OTHER_DIGIT;
 use entries::UNDER;
 ghost use mathlib.Core.Path.{_≡_};
 ghost use Prim.Native.Nat.{_<_};
@@ -21,7 +20,7 @@ ghost use Rattle.rules.specs.Castilian.{castilian};
 ghost use Rattle.rules.specs.Sorts.{class, isDigit, isOrdinal};
 ghost use Rattle.rules.specs.Rows.{sortIn};
 ghost use Rattle.rules.proofs.Sides.{caps-next, mixed-next, form-next, digit-next};
-ghost use Rattle.turns.specs.Stages.{isSmall, isCapital, futureAt, deedOf, settledBy, endsForm, goesOnUnder};
+ghost use Rattle.turns.specs.Stages.{isSmall, isCapital, futureAt, deedOf, settledBy, endsForm};
 ghost use Rattle.turns.specs.Acts.{questions};
 
 mod table;
@@ -239,17 +238,6 @@ fn form_follows(text: &[u32], from: usize) -> bool
             return ends_form(point, point_at(text, place + 1));
         }
         place += 1;
-    }
-    false
-}
-
-// Does a digit other than 1 go on under the bar of a fraction? Whatever follows, it has its own cell there, so the table need not be asked. (A 1 is
-// left to the table: it asks what follows where it begins a denominator.)
-pub fn goes_on_under(state: usize, class: usize) -> bool
-    ensures { λ r. ⌜ r ≡ goesOnUnder state class ⌝ }
-{
-    if class == OTHER_DIGIT {
-        return state == BARRED || state == UNDER;
     }
     false
 }

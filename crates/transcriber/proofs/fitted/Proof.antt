@@ -1,7 +1,7 @@
--- `fitted`: the text is accepted and its row has n cells (`measured-cells`), so `write` may be asked. Assumes nothing.
-use native.Mathlib.Omega.{arith}
-use Rattle.rules.specs.Castilian.{castilian}
-use Rattle.transcriber.proofs.Answering.{measured-cells, cramped, fitting}
+-- `fitted`: n is the count of the signs' cells, so where they fit `write` may be asked. Assumes nothing.
+use mathlib.Core.Path.{sym, _∙_}
+use Rattle.transcriber.specs.Passes.{joined}
+use Rattle.transcriber.proofs.Answering.{cramped, fitting}
 use borrow.Author.Needs.{needs}
 use Rattle.transcriber.proofs.fitted.Statement.{statement}
 use Rattle.transcriber.proofs.fitted.Tie as tie
@@ -12,13 +12,10 @@ use Rattle.transcriber.proofs.write.Reads as write-reads
 returns : tie.Need-returns
 returns c =
     let s = c .before .before .before in
-    cramped castilian (s .args .text .now) (s .args .row .now) (s .args .n) (s .pre) (c .if1 .taken)
+    cramped (s .args .n) (joined (s .args .signs .now)) (s .args .row .now) (c .if1 .taken)
 
 write-requires : tie.Need-write-requires
-write-requires c κs =
-    let s = c .before .before .before .before in
-    let m = measured-cells castilian (s .args .text .now) (s .args .n) (s .pre) in
-    (m .0, omega (arith, m .1, c .before .if1 .left))
+write-requires c κs = search needs
 
 same-length : tie.Need-same-length
 same-length c = search needs
@@ -28,7 +25,7 @@ returns-2 c =
     let w = c .before .before in
     let e = w .before .before in
     let s = e .before .before .before in
-    fitting castilian (s .args .text .now) (s .args .row .now) (s .args .n) _ _ (s .pre) (e .if1 .left) (w .write .ensures .0) (w .write .ensures .1)
+    fitting (s .args .n) (joined (s .args .signs .now)) (s .args .row .now) (e .if1 .left) _ _ (w .write .ensures .0 ∙ sym (s .pre)) (w .write .ensures .1)
 
 pub fitted-spec : {M : Type 1} → statement M
 fitted-spec = tie.close (tie.spec returns write-requires same-length returns-2)

@@ -1,7 +1,7 @@
 -- `transcribe`: a print that is too long is longer still when normalised; one that the rules accept is normal, and so is its own text; any other is
--- refused as it is, where it is normal, and otherwise goes through the copy. Assumes nothing.
-use mathlib.Core.Path.{_≡_, sym, _∙_, subst}
-use mathlib.Core.Bool.{Bool}
+-- refused as it is, where it is normal, and otherwise goes through the copy, to a row that is as it was. Assumes nothing.
+use mathlib.Core.Path.{_≡_, sym, ap, _∙_, subst}
+use mathlib.Core.Bool.{Bool, true, false}
 use mathlib.Core.List.{List}
 use Prim.Native.Nat.{ℕ, _≤_}
 use native.Mathlib.Omega.{arith}
@@ -14,10 +14,8 @@ use Rattle.rules.proofs.Rows.{whole-row, good-reads}
 use Rattle.rules.proofs.Demands.{accepted-is-normal}
 use Rattle.normal.specs.Same.{TellsNormal}
 use Rattle.transcriber.specs.Promise.{Transcribed}
-use Rattle.transcriber.specs.Passes.{measuredOf, answerOf, outOf}
-use Rattle.transcriber.specs.declared.Answer.{Answer}
-use Rattle.transcriber.specs.declared.Measured.the-variants.{Cells}
-use Rattle.transcriber.proofs.Answering.{measured-cells, measured-refused, carried, promised-long}
+use Rattle.transcriber.specs.Passes.{answerOf, acceptedBy}
+use Rattle.transcriber.proofs.Answering.{accepted-good, refused-kept, carried, promised-long}
 use borrow.Author.Needs.{needs}
 use Rattle.transcriber.proofs.transcribe.Statement.{statement}
 use Rattle.transcriber.proofs.transcribe.Tie as tie
@@ -25,24 +23,38 @@ use Rattle.transcriber.proofs.transcribe.Reads as reads
 use Rattle.transcriber.proofs.transcribe.Lts as lts
 use Rattle.normal.proofs.is_normal.Reads as is-normal-reads
 use Rattle.normal.proofs.normal_length.Reads as normal-length-reads
-use Rattle.transcriber.proofs.fitted.Reads as fitted-reads
-use Rattle.transcriber.proofs.measure.Reads as measure-reads
+use Rattle.transcriber.proofs.accepts.Reads as accepts-reads
 use Rattle.transcriber.proofs.transcribe_copy.Reads as transcribe-copy-reads
+use Rattle.transcriber.proofs.transcribe_normal.Reads as transcribe-normal-reads
 
-abbrev print : tie.Start → List ℕ
-print s = s .args .print .now
+-- once the print has been taken for a normalised text
+abbrev N : Type 0
+N = tie.After-transcribe-normal
 
-abbrev row : tie.Start → List ℕ
-row s = s .args .row .now
+abbrev start : N → tie.Start
+start n = n .before .before .before .before .before
 
--- what is measured as cells is normal
-normal-cells : (p : List ℕ) (n : ℕ) → measuredOf castilian p ≡ Cells n → normalOf p ≡ p
-normal-cells p n e = accepted-is-normal p (whole-row castilian p, good-reads castilian p (measured-cells castilian p n e .0))
+abbrev print : N → List ℕ
+print n = start n .args .print .now
 
--- the promise, from the answer to a print that is normal
-same : (p lent new : List ℕ) (a : Answer) → length p ≤ longestText → normalOf p ≡ p
-    → (a ≡ answerOf castilian p (length lent)) × (new ≡ outOf castilian p lent) → Transcribed castilian p lent a new
-same p lent new a l e h = carried castilian p lent (subst (λ (t : List ℕ). length t ≤ longestText) (sym e) l) p (sym e) a new h
+abbrev row : N → List ℕ
+row n = start n .args .row .now
+
+-- and it is known whether the answer accepts it
+abbrev A : Type 0
+A = tie.After-accepts
+
+abbrev from-a : A → N
+from-a a = a .before .before .before
+
+told : (a : A) (b : Bool) → a .accepts .result ≡ b → acceptedBy (answerOf castilian (print (from-a a)) (length (row (from-a a)))) ≡ b
+told a b e = ap acceptedBy (sym (from-a a .transcribe-normal .ensures .0)) ∙ sym (a .accepts .ensures) ∙ e
+
+-- the answer to a print that is normal is the promised one
+same : (n : N) → normalOf (print n) ≡ print n → Transcribed castilian (print n) (row n) (n .transcribe-normal .result) (n .transcribe-normal .last .1 .0)
+same n e =
+    carried castilian (print n) (row n) (subst (λ (t : List ℕ). length t ≤ longestText) (sym e) (n .before .before .if1 .left)) (print n) (sym e) _ _
+    (n .transcribe-normal .ensures)
 
 normal-length-requires : tie.Need-normal-length-requires
 normal-length-requires c κs = search needs
@@ -50,53 +62,51 @@ normal-length-requires c κs = search needs
 returns : tie.Need-returns
 returns c =
     let s = c .before .before .before .before in
-    promised-long castilian (print s) (row s) _ (omega (arith, normal-longer (print s), c .before .if1 .taken)) (c .normal-length .ensures)
+    promised-long castilian (s .args .print .now) (s .args .row .now) _ (omega (arith, normal-longer (s .args .print .now), c .before .if1 .taken))
+    (c .normal-length .ensures)
 
-measure-requires : tie.Need-measure-requires
-measure-requires c κs = search needs
+transcribe-normal-requires : tie.Need-transcribe-normal-requires
+transcribe-normal-requires c κs = search needs
 
-enum-known-measured : tie.Need-enum-known-measured
-enum-known-measured c = search needs
-
-fitted-requires : tie.Need-fitted-requires
-fitted-requires c κs =
-    let m = c .before .before .before .before in
-    sym (m .measure .ensures) ∙ c .before .before .measured .given .1
-
-enum-known-measured-2 : tie.Need-enum-known-measured-2
-enum-known-measured-2 c = search needs
-
-is-normal-requires : tie.Need-is-normal-requires
-is-normal-requires c κs = search needs
-
-returns-2 : tie.Need-returns-2
-returns-2 c =
-    let n = c .before in
-    let k = n .before .before in
-    let m = k .before .before in
-    let s = m .before .before .before .before in
-    let e : normalOf (print s) ≡ print s = subst (λ (b : Bool). TellsNormal b (print s)) (c .if2 .taken) (n .is-normal .ensures) in
-    same (print s) (row s) (row s) _ (m .before .if1 .left) e (measured-refused castilian (print s) (row s) _ (sym (m .measure .ensures) ∙ k .measured2 .given .1))
-
-transcribe-copy-requires : tie.Need-transcribe-copy-requires
-transcribe-copy-requires c κs = search needs
+accepts-requires : tie.Need-accepts-requires
+accepts-requires c κs = search needs
 
 same-length : tie.Need-same-length
 same-length c = search needs
 
-returns-3 : tie.Need-returns-3
-returns-3 c =
-    let f = c .before .before in
-    let k = f .before .before in
-    let m = k .before .before .before in
-    let s = m .before .before .before .before in
-    same (print s) (row s) _ _ (m .before .if1 .left) (normal-cells (print s) _ (sym (m .measure .ensures) ∙ k .before .measured .given .1)) (f .fitted .ensures)
+returns-2 : tie.Need-returns-2
+returns-2 c =
+    let a = c .before in
+    let n = from-a a in
+    same n
+    (accepted-is-normal (print n)
+    (whole-row castilian (print n), good-reads castilian (print n) (accepted-good castilian (print n) (row n) (told a true (c .if2 .taken)))))
+
+is-normal-requires : tie.Need-is-normal-requires
+is-normal-requires c κs = search needs
 
 same-length-2 : tie.Need-same-length-2
 same-length-2 c = search needs
 
+returns-3 : tie.Need-returns-3
+returns-3 c =
+    let i = c .before in
+    let n = from-a (i .before .before) in
+    same n (subst (λ (b : Bool). TellsNormal b (print n)) (c .if3 .taken) (i .is-normal .ensures))
+
+transcribe-copy-requires : tie.Need-transcribe-copy-requires
+transcribe-copy-requires c κs = search needs
+
+same-length-3 : tie.Need-same-length-3
+same-length-3 c = search needs
+
 returns-4 : tie.Need-returns-4
-returns-4 c = search needs
+returns-4 c =
+    let t = c .before .before in
+    let e = t .before .before .before .before in
+    let n = from-a (e .before) in
+    subst (λ (x : List ℕ). Transcribed castilian (print n) x (t .transcribe-copy .result) (t .transcribe-copy .last .1 .0))
+    (n .transcribe-normal .ensures .1 ∙ refused-kept castilian (print n) (row n) (told (e .before) false (e .if2 .left))) (t .transcribe-copy .ensures)
 
 pub transcribe-spec : {M : Type 1} → statement M
 transcribe-spec =
@@ -104,14 +114,13 @@ transcribe-spec =
     (tie.spec
     normal-length-requires
     returns
-    measure-requires
-    enum-known-measured
-    fitted-requires
-    enum-known-measured-2
-    is-normal-requires
-    returns-2
-    transcribe-copy-requires
+    transcribe-normal-requires
+    accepts-requires
     same-length
-    returns-3
+    returns-2
+    is-normal-requires
     same-length-2
+    returns-3
+    transcribe-copy-requires
+    same-length-3
     returns-4)

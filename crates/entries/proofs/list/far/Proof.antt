@@ -11,7 +11,8 @@ use Rattle.rules.specs.Sorts.{class, isDigitCell}
 use Rattle.rules.specs.Signs.{ownCells, lowerCells}
 use Rattle.rules.specs.Pairs.{markOf}
 use Rattle.rules.specs.Rows.{sortIn}
-use Rattle.entries.specs.Entries.{entryOf, word, thenOf, usualStates, bits, markNumber}
+use Rattle.entries.specs.SignWords.{signOf}
+use Rattle.entries.specs.Entries.{entryOf, word, thenOf, usualStates, bits, markNumber, usualsOf}
 use Rattle.entries.proofs.Keys.{none-of, rest-none}
 use Rattle.entries.proofs.list.far.Statement.{statement}
 use Rattle.entries.proofs.list.far.Tie as tie
@@ -21,13 +22,13 @@ keys =
     0x2014 ∷ 0x2018 ∷ 0x2019 ∷ 0x2020 ∷ 0x2030 ∷ 0x2044 ∷ 0x20ac ∷ 0x20bf ∷ 0xe000 ∷ 0xe001 ∷ []
 
 other : tie.Need-returns-11
-unfolding keys entryOf word thenOf usualStates bits markNumber sortIn castilian class isDigitCell ownCells lowerCells markOf dots
+unfolding keys entryOf word thenOf usualsOf usualStates bits markNumber signOf sortIn castilian class isDigitCell ownCells lowerCells markOf dots
 other c =
     none-of (λ k. ltb k 256) keys (c .before .args .point) tt (le-ltb (c .before .args .point) 256 (c .before .pre))
     (rest-none Unit keys (c .before .args .point) (c .match .rest) .1)
 
 pub far-spec : {M : Type 1} → statement M
-unfolding entryOf word thenOf usualStates bits markNumber sortIn castilian class isDigitCell ownCells lowerCells markOf dots
+unfolding entryOf word thenOf usualsOf usualStates bits markNumber signOf sortIn castilian class isDigitCell ownCells lowerCells markOf dots
 far-spec =
     tie.close
     (tie.spec

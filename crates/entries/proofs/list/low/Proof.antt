@@ -11,7 +11,8 @@ use Rattle.rules.specs.Sorts.{class, isDigitCell}
 use Rattle.rules.specs.Signs.{ownCells, lowerCells}
 use Rattle.rules.specs.Pairs.{markOf}
 use Rattle.rules.specs.Rows.{sortIn}
-use Rattle.entries.specs.Entries.{entryOf, word, thenOf, usualStates, bits, markNumber}
+use Rattle.entries.specs.SignWords.{signOf}
+use Rattle.entries.specs.Entries.{entryOf, word, thenOf, usualStates, bits, markNumber, usualsOf}
 use Rattle.entries.proofs.Keys.{none-of, rest-none}
 use Rattle.entries.proofs.list.low.Statement.{statement}
 use Rattle.entries.proofs.list.low.Tie as tie
@@ -27,13 +28,13 @@ keys =
     ∷ 0xdc ∷ 0xe1 ∷ 0xe9 ∷ 0xed ∷ 0xf1 ∷ 0xf3 ∷ 0xfa ∷ 0xfc ∷ []
 
 other : tie.Need-returns-106
-unfolding keys entryOf word thenOf usualStates bits markNumber sortIn castilian class isDigitCell ownCells lowerCells markOf dots
+unfolding keys entryOf word thenOf usualsOf usualStates bits markNumber signOf sortIn castilian class isDigitCell ownCells lowerCells markOf dots
 other c =
     none-of (λ k. leb 256 k) keys (c .before .args .point) tt (lt-leb 256 (c .before .args .point) (c .before .pre))
     (rest-none Unit keys (c .before .args .point) (c .match .rest) .1)
 
 pub low-spec : {M : Type 1} → statement M
-unfolding entryOf word thenOf usualStates bits markNumber sortIn castilian class isDigitCell ownCells lowerCells markOf dots
+unfolding entryOf word thenOf usualsOf usualStates bits markNumber signOf sortIn castilian class isDigitCell ownCells lowerCells markOf dots
 low-spec =
     tie.close
     (tie.spec

@@ -1,16 +1,16 @@
--- The first pass in the middle of a text: what is still to come gives the whole answer (`Mid`). One turn is the pair rule (`Passed`) and then the deed
--- (`Went`); each end of the pass is a law here, and the proof of `measure` only cites them. For any table that is `Held`. Assumes nothing.
+-- The first pass in the middle of a text: the signs drawn, with what is still to come, give the whole answer (`Mid`). One turn is the pair rule (`Passed`)
+-- and the sign (`Went`); each end of the pass is a law here, and the proof of `draw` only cites them. For any table that is `Held`. Assumes nothing.
 use mathlib.Core.Path.{_≡_, refl, sym, ap, _∙_, subst}
 use mathlib.Core.Bool.{Bool, true, false, cond}
-use mathlib.Core.List.{List}
+use mathlib.Core.List.{List, _++_, append-assoc, append-nil}
 use mathlib.Core.Logic.{⊎-elim}
 use mathlib.Core.Option.{Option, none, some}
 use Prim.Native.Nat.{ℕ, _+_, _*_, _/_, _%_, _≤_, _<_, zero-le}
 use native.Mathlib.Omega.{arith}
-use native.Mathlib.Nat.{zero-add}
 use lib.Dec.{eqb}
-use lib.ListN.{length, getD, length-append}
+use lib.ListN.{length, take, set, getD, length-append, length-set}
 use borrow.Author.Tests.{eq-eqb, ne-eqb}
+use Rattle.rules.specs.Cells.{Row}
 use Rattle.rules.specs.Sorts.{Table, class}
 use Rattle.rules.specs.Pairs.{Opens, markOf, fits, turn}
 use Rattle.rules.specs.Places.{lacksSign, breaksPair, outsideForm, sharesCells, Outcome, fault, silent, sign}
@@ -19,29 +19,34 @@ use Rattle.rules.proofs.Finite.{le-or-lt}
 use Rattle.rules.proofs.States.{Past, free}
 use Rattle.rules.proofs.Sides.{outcome-cells, row-on, verdict-on}
 use Rattle.rules.proofs.Rows.{whole-row}
-use Rattle.entries.specs.States.{free as freeState, under as underState, states}
-use Rattle.entries.specs.Entries.{entryOf, classIn, countIn, thenIn, markIn, usualIn, marks, markNumber}
+use Rattle.entries.specs.States.{free as freeState, states}
+use Rattle.entries.specs.SignWords.{cellsIn, countOf}
+use Rattle.entries.specs.Entries.{entryOf, classIn, signIn, thenIn, markIn, usualIn, marks, markNumber}
+use Rattle.entries.proofs.SignWords.{cells-length}
 use Rattle.pairs.specs.Opened.{openStates, opensOf, kindBy, openerBy, pairsBy}
 use Rattle.pairs.specs.declared.Pairs.{Pairs}
 use Rattle.pairs.specs.declared.Pairs.the-variants.{Stand, Broken}
 use Rattle.pairs.proofs.Pairing.{kind-small, mark-says, Means, pairs-mean, closed-is, none-open}
 use Rattle.turns.specs.Acts as act
-use Rattle.turns.specs.Stages.{itemsFrom, futureAt, stageAt, deedOf, goesOnUnder, settledBy, actOf}
-use Rattle.turns.proofs.Machine.{stage-small, then-small, under-is, parted, faultless, never-paired, done-low}
-use Rattle.transcriber.specs.Passes.{ownBy, cellsBy, widthBy, faultBy, shown, measuredOf}
+use Rattle.turns.specs.Stages.{itemsFrom, futureAt, stageAt, deedOf, settledBy, actOf}
+use Rattle.turns.proofs.Machine.{stage-small, then-small, parted, faultless, never-paired, done-low}
+use Rattle.transcriber.specs.Passes.{signBy, joined, faultBy, shown, measuredOf, Drawn}
 use Rattle.transcriber.specs.declared.Answer.the-variants.{PairBroken}
 use Rattle.transcriber.specs.declared.Measured.the-variants.{Cells, Refused}
-use Rattle.transcriber.proofs.Cells.{own-length, by-bare, width-is}
-use Rattle.transcriber.proofs.Going.{Held, sortHere, next, ahead, outcomeHere, actHere, deed-is, usual-deed, odd-single, state-after, cells-here, no-fault, row-here, verdict-here, row-end, verdict-end, row-start, verdict-start, judge-on}
+use Rattle.transcriber.proofs.Joined.{joined-more}
+use Rattle.transcriber.proofs.Going.{Held, sortHere, next, ahead, outcomeHere, actHere, deed-is, usual-deed, state-after, cells-here, no-fault, row-here, verdict-here, row-end, verdict-end, row-start, verdict-start, judge-on}
 
--- what `opened`, `state`, `n` and `i` are between two turns; the past is what the state stands for
-pub record Mid (tb : Table) (text : List ℕ) (opened state n i : ℕ) : Type 0 where
+-- what `signs`, `opened`, `state`, `n` and `i` are between two turns; the past is what the state stands for
+pub record Mid (tb : Table) (text signs₀ signs : List ℕ) (opened state n i : ℕ) : Type 0 where
   pub past : Past
   pub inside : i ≤ length text
+  pub room : length text ≤ length signs
+  pub same : length signs ≡ length signs₀
   pub few : opened < openStates
   pub at : state ≡ stageAt past (futureAt tb text i)
   pub low : n ≤ 3 * i
-  pub count : n + length (row-on past (itemsFrom tb text i)) ≡ length (whole-row tb text)
+  pub count : n ≡ length (joined (take i signs))
+  pub drawn : joined (take i signs) ++ row-on past (itemsFrom tb text i) ≡ whole-row tb text
   pub whole : verdict-on past (opensOf opened) i (itemsFrom tb text i) ≡ verdictOf tb text
 
 -- the code point at place i may stand there, as far as pairs go, and then these kinds are open
@@ -68,11 +73,11 @@ module _ (tb : Table) (h : Held tb) (text : List ℕ) where
     abbrev c : ℕ
     c = getD text i 0
 
-    pub passed-none : markIn (entryOf tb c) ≡ 0 → Passed tb text opened i opened
+    pub passed-none : markIn (entryOf tb c) ≡ 0 → (opens : ℕ) → opens ≡ opened → Passed tb text opened i opens
     unfolding fits turn
-    passed-none e =
+    passed-none e opens same =
         let q : markOf (sortIn tb c) ≡ none = mark-none (markOf (sortIn tb c)) (sym (h .words .mark-is c) ∙ e) in
-        record { stands = rw q; turns = rw q; few = few }
+        subst (Passed tb text opened i) (sym same) (record { stands = rw q; turns = rw q; few = few })
 
     module _ (m : ℕ) (is-m : m ≡ markIn (entryOf tb c)) (some-mark : 0 < m) where
       number : m ≡ markNumber (markOf (sortIn tb c))
@@ -97,10 +102,10 @@ module _ (tb : Table) (h : Held tb) (text : List ℕ) where
       unfolding fits
       not-passed e = rw says (mean Broken e)
 
-  -- what the deed of place i does: no fault; how many cells; the state after it
+  -- what is done at place i: no fault; the cells of its sign; the state after it
   pub record Went (past : Past) (i w s : ℕ) : Type 0 where
     pub fine : faultless (outcomeHere tb h text i past) ≡ true
-    pub width : w ≡ length (outcome-cells (outcomeHere tb h text i past) (sortHere tb h text i past))
+    pub cells : cellsIn w ≡ outcome-cells (outcomeHere tb h text i past) (sortHere tb h text i past)
     pub leads : s ≡ stageAt (next tb h text i past) (ahead tb h text i past)
 
   module _ (past : Past) (i state : ℕ) (at : state ≡ stageAt past (futureAt tb text i)) where
@@ -114,62 +119,42 @@ module _ (tb : Table) (h : Held tb) (text : List ℕ) where
       pub act-is : d ≡ actHere tb h text i past
       act-is = deed-is tb h text i past state d at is-d
 
-      pub went-deed : usualIn e state ≡ false → d < act.questions → (w : ℕ) → w ≡ widthBy (d % act.ways) → Went past i w (d / act.ways)
-      went-deed u l w is-w =
+      -- by its deed
+      pub went-deed : d < act.questions → (w s : ℕ) → w ≡ signBy (d % act.ways) e → s ≡ d / act.ways → Went past i w s
+      went-deed l w s is-w is-s =
           record {
             fine = no-fault tb h text i past d act-is l;
-            width =
-                is-w ∙ width-is (d % act.ways) e (odd-single tb h text i past state d state-small u is-d l)
-                ∙ ap length (cells-here tb h text i past d act-is l);
-            leads = state-after tb h text i past d act-is l;
+            cells = ap cellsIn is-w ∙ cells-here tb h text i past d act-is l;
+            leads = is-s ∙ state-after tb h text i past d act-is l;
           }
 
     -- as usual: its own cells, and the state that its word leads to
-    pub usual-goes : usualIn e state ≡ true
-        → (faultless (outcomeHere tb h text i past) ≡ true)
-        × (ownBy e ≡ outcome-cells (outcomeHere tb h text i past) (sortHere tb h text i past))
-        × (thenIn e ≡ stageAt (next tb h text i past) (ahead tb h text i past))
-    usual-goes u =
-        let t : thenIn e < states = subst (λ (n : ℕ). n < states) (sym (h .words .then-is (getD text i 0))) (then-small (class (sortHere tb h text i past))) in
-        let q = parted (thenIn e) act.bareWay t (omega arith) in
-        let d : ℕ = thenIn e * act.ways + act.bareWay in
-        let is-d = act-is d (usual-deed tb h text i past state state-small u) in (
-          no-fault tb h text i past d is-d (q .0),
-          sym (by-bare act.bareWay e refl) ∙ ap (λ (k : ℕ). cellsBy k e) (sym (q .2)) ∙ cells-here tb h text i past d is-d (q .0),
-          sym (q .1) ∙ state-after tb h text i past d is-d (q .0),
-        )
+    module _ (u : usualIn e state ≡ true) where
+      pub passed-usual : (opened : ℕ) → opened < openStates → (opens : ℕ) → opens ≡ opened → Passed tb text opened i opens
+      passed-usual opened few = passed-none opened i few (h .words .usual-unmarked (getD text i 0) state state-small u)
 
-    pub went-usual : usualIn e state ≡ true → Went past i (countIn e) (thenIn e)
-    went-usual u = let g = usual-goes u in record { fine = g .0; width = sym (own-length e) ∙ ap length (g .1); leads = g .2 }
-
-    -- a digit that goes on under the bar of a fraction: its own cell
-    under-told : goesOnUnder state (classIn e) ≡ true → act.digitUnder ≡ settledBy (deedOf state (classIn e)) (ahead tb h text i past)
-    under-told g = under-is state (classIn e) (ahead tb h text i past) state-small (omega arith) g
-
-    pub went-under : goesOnUnder state (classIn e) ≡ true → usualIn e state ≡ false → Went past i 1 underState
-    unfolding widthBy
-    went-under g u = went-deed act.digitUnder (under-told g) u (omega arith) 1 refl
-
-    pub under-goes : goesOnUnder state (classIn e) ≡ true
-        → (ownBy e ≡ outcome-cells (outcomeHere tb h text i past) (sortHere tb h text i past))
-        × (underState ≡ stageAt (next tb h text i past) (ahead tb h text i past))
-    under-goes g =
-        let is-d = act-is act.digitUnder (under-told g) in (
-          sym (by-bare act.bareWay e refl) ∙ cells-here tb h text i past act.digitUnder is-d (omega arith),
-          state-after tb h text i past act.digitUnder is-d (omega arith),
-        )
+      pub went-usual : (w s : ℕ) → w ≡ signIn e → s ≡ thenIn e → Went past i w s
+      unfolding signBy
+      went-usual w s is-w is-s =
+          let t : thenIn e < states = subst (λ (n : ℕ). n < states) (sym (h .words .then-is (getD text i 0))) (then-small (class (sortHere tb h text i past))) in
+          let q = parted (thenIn e) act.bareWay t (omega arith) in
+          went-deed (thenIn e * act.ways + act.bareWay) (usual-deed tb h text i past state state-small u) (q .0) w s
+          (is-w ∙ ap (λ (k : ℕ). signBy k e) (sym (q .2))) (is-s ∙ sym (q .1))
 
   -- A TURN
-  pub mid-start : Mid tb text 0 freeState 0 0
+  pub mid-start : (signs : List ℕ) → length text ≤ length signs → Mid tb text signs signs 0 freeState 0 0
   unfolding stageAt
-  mid-start =
+  mid-start signs room =
       record {
         past = free;
         inside = zero-le;
+        room = room;
+        same = refl;
         few = omega arith;
         at = refl;
         low = zero-le;
-        count = zero-add _ ∙ ap length (row-start tb h text);
+        count = refl;
+        drawn = row-start tb h text;
         whole = ap (λ (o : Opens). verdict-on free o 0 (itemsFrom tb text 0)) (sym none-open) ∙ verdict-start tb h text;
       }
 
@@ -178,7 +163,7 @@ module _ (tb : Table) (h : Held tb) (text : List ℕ) where
   unfolding measuredOf
   told v e = rw e
 
-  module _ (opened state n i : ℕ) (m : Mid tb text opened state n i) where
+  module _ (signs₀ signs : List ℕ) (opened state n i : ℕ) (m : Mid tb text signs₀ signs opened state n i) where
     module _ (l : i < length text) where
       pub mid-broken : fits (opensOf opened) (sortIn tb (getD text i 0)) ≡ false → Refused (PairBroken i) ≡ measuredOf tb text
       mid-broken e = told (bad breaksPair i) (sym (verdict-here tb h text i (m .past) l (opensOf opened) ∙ rw e) ∙ m .whole)
@@ -221,39 +206,54 @@ module _ (tb : Table) (h : Held tb) (text : List ℕ) where
             go silent e = absurd (high (ap faultless e))
             go (sign w) e = absurd (high (ap faultless e))
 
-        pub mid-on : (w s : ℕ) → Went (m .past) i w s → w ≤ 3 → Mid tb text opens s (n + w) (i + 1)
-        mid-on w s g three =
+        -- the sign is stored, and its cells counted
+        mid-next : (w s k : ℕ) → Went (m .past) i w s → k ≡ countOf w → Mid tb text signs₀ (set signs i w) opens s (n + k) (i + 1)
+        mid-next w s k g is-k =
+            let here : Row = outcome-cells (outcomeHere tb h text i (m .past)) (sortHere tb h text i (m .past)) in
+            let rest : Row = row-on (next tb h text i (m .past)) (itemsFrom tb text (i + 1)) in
+            let more : joined (take (i + 1) (set signs i w)) ≡ joined (take i signs) ++ cellsIn w =
+            joined-more signs i w (omega (arith, m .room)) in
             record {
               past = next tb h text i (m .past);
               inside = omega arith;
+              room = simp length-set (m .room);
+              same = length-set signs i w ∙ m .same;
               few = p .few;
               at = g .leads;
-              low = omega (arith, m .low);
+              low = omega (arith, m .low, is-k);
               count =
-                  omega (
-                    arith,
-                    m .count,
-                    ap length (row-here tb h text i (m .past) l),
-                    g .width,
-                    length-append (outcome-cells (outcomeHere tb h text i (m .past)) (sortHere tb h text i (m .past)))
-                        (row-on (next tb h text i (m .past)) (itemsFrom tb text (i + 1))),
-                  );
+                  omega (arith, m .count, is-k, cells-length w, ap length more, length-append (joined (take i signs)) (cellsIn w));
+              drawn =
+                  ap (λ (r : Row). r ++ rest) (more ∙ ap (λ (r : Row). joined (take i signs) ++ r) (g .cells))
+                  ∙ append-assoc (joined (take i signs)) here rest
+                  ∙ ap (λ (r : Row). joined (take i signs) ++ r) (sym (row-here tb h text i (m .past) l)) ∙ m .drawn;
               whole =
                   let v : Verdict = verdict-on (next tb h text i (m .past)) (opensOf opens) (i + 1) (itemsFrom tb text (i + 1)) in
                   sym (judged v refl ∙ judge-on (outcomeHere tb h text i (m .past)) i v (g .fine));
             }
 
+        pub mid-on : (w s k : ℕ) → Went (m .past) i w s → k ≡ countOf w → (new : List ℕ) (count : ℕ) → new ≡ set signs i w → count ≡ n + k
+            → Mid tb text signs₀ new opens s count (i + 1)
+        mid-on w s k g is-k new count is-new is-count =
+            subst (λ (j : ℕ). Mid tb text signs₀ new opens s j (i + 1)) (sym is-count)
+            (subst (λ (x : List ℕ). Mid tb text signs₀ x opens s (n + k) (i + 1)) (sym is-new) (mid-next w s k g is-k))
+
     module _ (l : length text ≤ i) where
-      done : n ≡ length (whole-row tb text)
-      done = omega (arith, m .count, ap length (row-end tb h text i (m .past) l))
+      all-drawn : joined (take i signs) ≡ whole-row tb text
+      all-drawn = sym (append-nil (joined (take i signs))) ∙ ap (λ (r : Row). joined (take i signs) ++ r) (sym (row-end tb h text i (m .past) l)) ∙ m .drawn
 
       ended : cond (eqb opened 0) good (bad breaksPair i) ≡ verdictOf tb text
       ended =
           ap (λ (b : Bool). cond b good (bad breaksPair i)) (sym (closed-is opened (m .few)))
           ∙ sym (verdict-end tb h text i (m .past) (opensOf opened) l) ∙ m .whole
 
-      pub mid-done : opened ≡ 0 → Cells n ≡ measuredOf tb text
-      mid-done e = ap Cells done ∙ told good (ap (λ (b : Bool). cond b good (bad breaksPair i)) (sym (eq-eqb opened 0 e)) ∙ ended)
+      pub mid-done : opened ≡ 0 → (Cells n ≡ measuredOf tb text) × Drawn (Cells n) tb text (take (length text) signs)
+      mid-done e =
+          let k : i ≡ length text = omega (arith, m .inside) in (
+            ap Cells (m .count ∙ ap length all-drawn)
+                ∙ told good (ap (λ (b : Bool). cond b good (bad breaksPair i)) (sym (eq-eqb opened 0 e)) ∙ ended),
+            ap (λ (j : ℕ). joined (take j signs)) (sym k) ∙ all-drawn,
+          )
 
       pub mid-open : (opened ≡ 0 → ⊥) → Refused (PairBroken i) ≡ measuredOf tb text
       mid-open e = told (bad breaksPair i) (ap (λ (b : Bool). cond b good (bad breaksPair i)) (sym (ne-eqb opened 0 e)) ∙ ended)
