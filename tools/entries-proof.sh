@@ -19,15 +19,15 @@ far) test='ltb k 256' bound='le-ltb (c .before .args .point) 256 (c .before .pre
 *) echo "entries-proof: which part, low or far?" >&2; exit 2 ;;
 esac
 
-signs=$(awk -f tools/sign-list.awk)
-keys=$(printf '%s\n' "$signs" | awk -F '\t' -v part="$part" '$3 == part { print $2 }')
+keys=$(awk -v arms=1 -f tools/sign-list.awk | awk -F '\t' -v part="$part" '$3 == part { print $2 }')
 [ -n "$keys" ] || { echo "entries-proof: the sign list has no code point of the part $part" >&2; exit 1; }
 count=$(printf '%s\n' "$keys" | awk 'END { print NR }')
-unfold='entryOf word thenOf usualsOf usualStates bits markNumber signOf sortIn castilian class isDigitCell ownCells lowerCells markOf dots'
+unfold='oneFor entryOf word thenOf usualsOf usualStates bits markNumber signOf sortIn castilian class isDigitCell ownCells lowerCells markOf dots'
 
 cat <<TEXT
 -- Printed by tools/print-entries-$part.sh: change that.
--- \`list::$part\`: at each key antt computes both sides; any other code point is none of the sign list's (\`none-of\`). Assumes nothing.
+-- \`list::$part\`: at each key antt computes both sides; any other code point is none of the sign list's, and none that is looked up as
+-- another (\`none-of\`). Assumes nothing.
 use mathlib.Core.Path.{_≡_, sym, ap}
 use mathlib.Core.List.{List, [], _∷_}
 use Prim.Native.Nat.{ℕ}
@@ -39,6 +39,7 @@ use Rattle.rules.specs.Sorts.{class, isDigitCell}
 use Rattle.rules.specs.Signs.{ownCells, lowerCells}
 use Rattle.rules.specs.Pairs.{markOf}
 use Rattle.rules.specs.Rows.{sortIn}
+use Rattle.rules.proofs.Plain.{oneFor}
 use Rattle.entries.specs.SignWords.{signOf}
 use Rattle.entries.specs.Entries.{entryOf, word, thenOf, usualStates, bits, markNumber, usualsOf}
 use Rattle.entries.proofs.Keys.{none-of, rest-none}
@@ -64,7 +65,7 @@ cat <<TEXT
 other : tie.Need-returns-$((count + 1))
 unfolding keys $unfold
 other c =
-    none-of (λ k. $test) keys (c .before .args .point) tt ($bound)
+    none-of (λ k. $test) keys (c .before .args .point) tt tt ($bound)
     (rest-none Unit keys (c .before .args .point) (c .match .rest) .1)
 
 pub $part-spec : {M : Type 1} → statement M
@@ -73,5 +74,5 @@ $part-spec =
     tie.close
     (tie.spec
 TEXT
-printf '%s\n' "$keys" | awk '{ print "    (λ c. sym (ap (entryOf castilian) (c .match .keys" NR ")))" }'
+printf '%s\n' "$keys" | awk '{ print "    (λ c. sym (ap (λ (k : ℕ). entryOf castilian (oneFor k)) (c .match .keys" NR ")))" }'
 echo '    other)'

@@ -4,6 +4,7 @@
 ghost use mathlib.Core.Path.{_≡_};
 ghost use Prim.Native.Nat.{_<_, _≤_};
 ghost use Rattle.rules.specs.Castilian.{castilian};
+ghost use Rattle.rules.proofs.Plain.{oneFor};
 ghost use Rattle.entries.specs.Entries.{entryOf, usualIn, thenIn, signIn, firstIn, lowerIn, classIn, markIn};
 
 mod list;
@@ -98,9 +99,9 @@ const WORD_BITS: usize = 64;
 // Code points below this stand in one table that has no gaps worth speaking of: once compiled, the look-up is one read.
 const DENSE: u32 = 256;
 
-// The word of a code point.
+// The word of a code point. One that becomes another when it is normalised, as “ becomes «, has the word of that one.
 pub fn entry_of(point: u32) -> u64
-    ensures { λ r. ⌜ r ≡ entryOf castilian point ⌝ }
+    ensures { λ r. ⌜ r ≡ entryOf castilian (oneFor point) ⌝ }
 {
     if point < DENSE {
         list::low(point)
