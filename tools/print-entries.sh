@@ -187,7 +187,8 @@ arms() { # PART
 }
 
 cat <<'TEXT'
-// A code point below 256.
+// A code point below 256. All 256 are named, so that the table, once compiled, is read without a test of where it begins and ends. (Those without a
+// sign are in two arms, the even ones and the odd: numbers that follow one another in one arm would be compiled to a test of their own.)
 pub fn low(point: u32) -> u64
     requires { ⌜ point < 256 ⌝ }
     ensures { λ r. ⌜ r ≡ entryOf castilian (oneFor point) ⌝ }
@@ -195,8 +196,14 @@ pub fn low(point: u32) -> u64
     match point {
 TEXT
 arms low
+for parity in even odd; do
+    sh tools/unlisted.sh $parity | awk '
+    NR > 1 { print line }
+    { line = (NR == 1 ? "        " : "        | ") $0 }
+    END { print line " => AS_UNLISTED," }'
+done
 cat <<'TEXT'
-        _ => AS_UNLISTED,
+        _ => 0, // there is no other
     }
 }
 

@@ -1,4 +1,4 @@
--- Looking up in a sign list. In order: what the `_` arm of a look-up knows; a test of every entry holds at whatever is looked up; a code point
+-- Looking up in a sign list. In order: what the `_` arm of a look-up knows, and an arm of several keys; a test of every entry holds at whatever is looked up; a code point
 -- that is no key has no sign. Assumes nothing.
 use mathlib.Core.Path.{_≡_, refl, sym, ap, _∙_, subst}
 use mathlib.Core.Logic.{_⊎_, inl, inr, ⊎-elim}
@@ -8,6 +8,7 @@ use Prim.Native.Nat.{ℕ}
 use Prim.Native.Char.{code}
 use lib.Dec.{T, eqb, eqb→eq}
 use borrow.Author.Tests.{ne-eqb}
+use types.Run.{OneOf}
 use Rattle.rules.specs.Sorts.{Sort, noSign, Item, Table}
 use Rattle.rules.specs.Rows.{sortIn}
 use Rattle.rules.specs.Castilian.{castilian}
@@ -32,6 +33,20 @@ rest-none A [] c r = (r, refl)
 rest-none A (k ∷ ks) c r =
     let i = rest-none (A × (c ≡ k → ⊥)) ks c r in
     (i .0 .0, rw (ne-eqb c k (i .0 .1)) (i .1))
+
+-- what an arm of several keys knows: that it is one of them
+pub told-of : (f : ℕ → Bool) (ks : List ℕ) (c : ℕ) → T (every f ks) → OneOf ks c → T (f c)
+told-of f [] c t o = absurd o
+told-of f (k ∷ []) c t o = subst (λ (n : ℕ). T (f n)) (sym o) (and-left (f k) true t)
+told-of f (k ∷ l ∷ ks) c t o =
+    ⊎-elim (λ e. subst (λ (n : ℕ). T (f n)) (sym e) (and-left (f k) (every f (l ∷ ks)) t))
+    (λ later. told-of f (l ∷ ks) c (and-right (f k) (every f (l ∷ ks)) t) later) o
+
+-- and those behind it: that it is none of them
+pub not-told : (ks : List ℕ) (c : ℕ) → (OneOf ks c → ⊥) → among ks c ≡ false
+not-told [] c r = refl
+not-told (k ∷ []) c r = rw (ne-eqb c k r)
+not-told (k ∷ l ∷ ks) c r = rw (ne-eqb c k (λ e. r (inl e))) (not-told (l ∷ ks) c (λ o. r (inr o)))
 
 -- what is chosen by a number that is none of the keys is what is left
 module _ {A : Type 0} where

@@ -96,7 +96,7 @@ const THEN: u64 = 1152921504606846976;
 
 const WORD_BITS: usize = 64;
 
-// Code points below this stand in one table that has no gaps worth speaking of: once compiled, the look-up is one read.
+// Code points below this stand in one table that has no gaps: once compiled, the look-up is one read.
 const DENSE: u32 = 256;
 
 // The word of a code point. One that becomes another when it is normalised, as “ becomes «, has the word of that one.

@@ -1,21 +1,23 @@
 -- Printed by tools/print-entries-low.sh: change that.
--- `list::low`: at each key antt computes both sides; any other code point is none of the sign list's, and none that is looked up as
--- another (`none-of`). Assumes nothing.
+-- `list::low`: at each key antt computes both sides; a code point of the last two arms is none of the sign list's (`none-of`); and every one below 256 stands
+-- in some arm. Assumes nothing.
 use mathlib.Core.Path.{_≡_, sym, ap}
+use mathlib.Core.Bool.{false, _||_, not}
 use mathlib.Core.List.{List, [], _∷_}
-use Prim.Native.Nat.{ℕ}
-use lib.Dec.{leb, ltb}
-use borrow.Author.Tests.{lt-leb, le-ltb}
+use Prim.Native.Nat.{ℕ, _<_}
+use lib.Dec.{T, leb}
+use borrow.Author.Tests.{lt-leb}
+use Rattle.rules.proofs.Finite.{below, at-below, false-of}
 use Rattle.rules.specs.Castilian.{castilian}
 use Rattle.rules.specs.Cells.{dots}
-use Rattle.rules.specs.Sorts.{class, isDigitCell}
+use Rattle.rules.specs.Sorts.{noSign, class, isDigitCell}
 use Rattle.rules.specs.Signs.{ownCells, lowerCells}
 use Rattle.rules.specs.Pairs.{markOf}
 use Rattle.rules.specs.Rows.{sortIn}
 use Rattle.rules.proofs.Plain.{oneFor}
 use Rattle.entries.specs.SignWords.{signOf}
 use Rattle.entries.specs.Entries.{entryOf, word, thenOf, usualStates, bits, markNumber, usualsOf}
-use Rattle.entries.proofs.Keys.{none-of, rest-none}
+use Rattle.entries.proofs.Keys.{among, none-of, rest-none, told-of, not-told}
 use Rattle.entries.proofs.list.low.Statement.{statement}
 use Rattle.entries.proofs.list.low.Tie as tie
 
@@ -29,11 +31,52 @@ keys =
     ∷ 0x7d ∷ 0xa1 ∷ 0xa2 ∷ 0xa3 ∷ 0xa5 ∷ 0xaa ∷ 0xab ∷ 0xba ∷ 0xbb ∷ 0xbf ∷ 0xc1 ∷ 0xc9 ∷ 0xcd ∷ 0xd1 ∷ 0xd3 ∷ 0xda
     ∷ 0xdc ∷ 0xe1 ∷ 0xe9 ∷ 0xed ∷ 0xf1 ∷ 0xf3 ∷ 0xfa ∷ 0xfc ∷ []
 
-other : tie.Need-returns-106
+unlisted : (c : ℕ) → c < 256 → among keys c ≡ false → word noSign ≡ entryOf castilian (oneFor c)
 unfolding keys oneFor entryOf word thenOf usualsOf usualStates bits markNumber signOf sortIn castilian class isDigitCell ownCells lowerCells markOf dots
+unlisted c l e = none-of (λ k. leb 256 k) keys c tt tt (lt-leb 256 c l) e
+
+even : List ℕ
+even =
+    0x0 ∷ 0x2 ∷ 0x4 ∷ 0x6 ∷ 0x8 ∷ 0xa ∷ 0xc ∷ 0xe ∷ 0x10 ∷ 0x12 ∷ 0x14 ∷ 0x16 ∷ 0x18 ∷ 0x1a ∷ 0x1c ∷ 0x1e ∷ 0x22 ∷ 0x2a
+    ∷ 0x40 ∷ 0x5e ∷ 0x60 ∷ 0x7c ∷ 0x7e ∷ 0x80 ∷ 0x82 ∷ 0x84 ∷ 0x86 ∷ 0x88 ∷ 0x8a ∷ 0x8c ∷ 0x8e ∷ 0x90 ∷ 0x92 ∷ 0x94
+    ∷ 0x96 ∷ 0x98 ∷ 0x9a ∷ 0x9c ∷ 0x9e ∷ 0xa0 ∷ 0xa4 ∷ 0xa6 ∷ 0xa8 ∷ 0xac ∷ 0xae ∷ 0xb0 ∷ 0xb2 ∷ 0xb4 ∷ 0xb6 ∷ 0xb8
+    ∷ 0xbc ∷ 0xbe ∷ 0xc0 ∷ 0xc2 ∷ 0xc4 ∷ 0xc6 ∷ 0xc8 ∷ 0xca ∷ 0xcc ∷ 0xce ∷ 0xd0 ∷ 0xd2 ∷ 0xd4 ∷ 0xd6 ∷ 0xd8 ∷ 0xde
+    ∷ 0xe0 ∷ 0xe2 ∷ 0xe4 ∷ 0xe6 ∷ 0xe8 ∷ 0xea ∷ 0xec ∷ 0xee ∷ 0xf0 ∷ 0xf2 ∷ 0xf4 ∷ 0xf6 ∷ 0xf8 ∷ 0xfe ∷ []
+
+odd : List ℕ
+odd =
+    0x1 ∷ 0x3 ∷ 0x5 ∷ 0x7 ∷ 0x9 ∷ 0xb ∷ 0xd ∷ 0xf ∷ 0x11 ∷ 0x13 ∷ 0x15 ∷ 0x17 ∷ 0x19 ∷ 0x1b ∷ 0x1d ∷ 0x1f ∷ 0x23 ∷ 0x27
+    ∷ 0x2b ∷ 0x5b ∷ 0x5d ∷ 0x5f ∷ 0x7f ∷ 0x81 ∷ 0x83 ∷ 0x85 ∷ 0x87 ∷ 0x89 ∷ 0x8b ∷ 0x8d ∷ 0x8f ∷ 0x91 ∷ 0x93 ∷ 0x95
+    ∷ 0x97 ∷ 0x99 ∷ 0x9b ∷ 0x9d ∷ 0x9f ∷ 0xa7 ∷ 0xa9 ∷ 0xad ∷ 0xaf ∷ 0xb1 ∷ 0xb3 ∷ 0xb5 ∷ 0xb7 ∷ 0xb9 ∷ 0xbd ∷ 0xc3
+    ∷ 0xc5 ∷ 0xc7 ∷ 0xcb ∷ 0xcf ∷ 0xd5 ∷ 0xd7 ∷ 0xd9 ∷ 0xdb ∷ 0xdd ∷ 0xdf ∷ 0xe3 ∷ 0xe5 ∷ 0xe7 ∷ 0xeb ∷ 0xef ∷ 0xf5
+    ∷ 0xf7 ∷ 0xf9 ∷ 0xfb ∷ 0xfd ∷ 0xff ∷ []
+
+even-told : tie.Need-returns-106
+unfolding keys even oneFor entryOf word thenOf usualsOf usualStates bits markNumber signOf sortIn castilian class isDigitCell ownCells lowerCells markOf dots
+even-told c =
+    let p : ℕ = c .before .args .point in
+    unlisted p (c .before .pre) (false-of (among keys p) (told-of (λ k. not (among keys k)) even p tt (c .match .keys106)))
+
+odd-told : tie.Need-returns-107
+unfolding keys odd oneFor entryOf word thenOf usualsOf usualStates bits markNumber signOf sortIn castilian class isDigitCell ownCells lowerCells markOf dots
+odd-told c =
+    let p : ℕ = c .before .args .point in
+    unlisted p (c .before .pre) (false-of (among keys p) (told-of (λ k. not (among keys k)) odd p tt (c .match .keys107)))
+
+all-told : T (below (λ k. among keys k || (among even k || among odd k)) 256)
+unfolding keys even odd
+all-told = tt
+
+untold : (c : ℕ) → c < 256 → among keys c ≡ false → among even c ≡ false → among odd c ≡ false → ⊥
+untold c l p q r = rw (p, q, r) at (at-below (λ k. among keys k || (among even k || among odd k)) 256 all-told c l)
+
+other : tie.Need-returns-108
+unfolding keys even odd
 other c =
-    none-of (λ k. leb 256 k) keys (c .before .args .point) tt tt (lt-leb 256 (c .before .args .point) (c .before .pre))
-    (rest-none Unit keys (c .before .args .point) (c .match .rest) .1)
+    let p : ℕ = c .before .args .point in
+    absurd
+    (untold p (c .before .pre) (rest-none Unit keys p (c .match .rest .0 .0) .1) (not-told even p (c .match .rest .0 .1))
+    (not-told odd p (c .match .rest .1)))
 
 pub low-spec : {M : Type 1} → statement M
 unfolding oneFor entryOf word thenOf usualsOf usualStates bits markNumber signOf sortIn castilian class isDigitCell ownCells lowerCells markOf dots
@@ -145,4 +188,6 @@ low-spec =
     (λ c. sym (ap (λ (k : ℕ). entryOf castilian (oneFor k)) (c .match .keys103)))
     (λ c. sym (ap (λ (k : ℕ). entryOf castilian (oneFor k)) (c .match .keys104)))
     (λ c. sym (ap (λ (k : ℕ). entryOf castilian (oneFor k)) (c .match .keys105)))
+    even-told
+    odd-told
     other)
