@@ -19,12 +19,10 @@ far) test='ltb k 256' bound='le-ltb c 256 l' pre='256 ≤ c' ;;
 *) echo "entries-proof: which part, low or far?" >&2; exit 2 ;;
 esac
 
-signs=$(awk -f tools/sign-list.awk)
-keys=$(printf '%s\n' "$signs" | awk -F '\t' -v part="$part" '$3 == part { print $2 }')
+keys=$(awk -v arms=1 -f tools/sign-list.awk | awk -F '\t' -v part="$part" '$3 == part { print $2 }')
 [ -n "$keys" ] || { echo "entries-proof: the sign list has no code point of the part $part" >&2; exit 1; }
 count=$(printf '%s\n' "$keys" | awk 'END { print NR }')
-unfold='entryOf word thenOf usualsOf usualStates bits markNumber signOf sortIn castilian class isDigitCell ownCells lowerCells markOf dots'
-
+unfold='oneFor entryOf word thenOf usualsOf usualStates bits markNumber signOf sortIn castilian class isDigitCell ownCells lowerCells markOf dots'
 
 # A list of numbers, filled to lines of at most 120 columns.
 list() { # NAME
@@ -58,7 +56,8 @@ TEXT
     keys_used='among, none-of, rest-none, told-of, not-told' ;;
 far)
     cat <<'TEXT'
--- `list::far`: at each key antt computes both sides; any other code point is none of the sign list's (`none-of`). Assumes nothing.
+-- `list::far`: at each key antt computes both sides; any other code point is none of the sign list's, and none that is looked up as
+-- another (`none-of`). Assumes nothing.
 use mathlib.Core.Path.{_≡_, sym, ap}
 use mathlib.Core.Bool.{false}
 use mathlib.Core.List.{List, [], _∷_}
@@ -75,6 +74,7 @@ use Rattle.rules.specs.Sorts.{noSign, class, isDigitCell}
 use Rattle.rules.specs.Signs.{ownCells, lowerCells}
 use Rattle.rules.specs.Pairs.{markOf}
 use Rattle.rules.specs.Rows.{sortIn}
+use Rattle.rules.proofs.Plain.{oneFor}
 use Rattle.entries.specs.SignWords.{signOf}
 use Rattle.entries.specs.Entries.{entryOf, word, thenOf, usualStates, bits, markNumber, usualsOf}
 use Rattle.entries.proofs.Keys.{$keys_used}
@@ -84,9 +84,9 @@ use Rattle.entries.proofs.list.$part.Tie as tie
 TEXT
 printf '%s\n' "$keys" | list keys
 cat <<TEXT
-unlisted : (c : ℕ) → $pre → among keys c ≡ false → word noSign ≡ entryOf castilian c
+unlisted : (c : ℕ) → $pre → among keys c ≡ false → word noSign ≡ entryOf castilian (oneFor c)
 unfolding keys $unfold
-unlisted c l e = none-of (λ k. $test) keys c tt ($bound) e
+unlisted c l e = none-of (λ k. $test) keys c tt tt ($bound) e
 
 TEXT
 
@@ -141,5 +141,5 @@ $part-spec =
     tie.close
     (tie.spec
 TEXT
-printf '%s\n' "$keys" | awk '{ print "    (λ c. sym (ap (entryOf castilian) (c .match .keys" NR ")))" }'
+printf '%s\n' "$keys" | awk '{ print "    (λ c. sym (ap (λ (k : ℕ). entryOf castilian (oneFor k)) (c .match .keys" NR ")))" }'
 printf '%s\n' "$last"

@@ -1,6 +1,6 @@
 #!/bin/sh
-# Prints the code points below 256 that have no sign, one to a line: the even ones or the odd ones (`even`, `odd`). They are those that
-# tools/sign-list.awk does not name. tools/print-entries.sh and tools/entries-proof.sh print from these lines.
+# Prints the code points below 256 that have no sign, one to a line: the even ones or the odd ones (`even`, `odd`). They are those for which
+# tools/sign-list.awk names no arm. tools/print-entries.sh and tools/entries-proof.sh print from these lines.
 set -eu
 CDPATH='' cd "$(dirname "$0")/.."
 
@@ -14,7 +14,7 @@ odd) first=1 ;;
 *) echo "unlisted: which, even or odd?" >&2; exit 2 ;;
 esac
 
-awk -f tools/sign-list.awk | awk -F '\t' -v first=$first '
+awk -v arms=1 -f tools/sign-list.awk | awk -F '\t' -v first=$first '
 { listed[$2] = 1 }
 END {
     for (n = first; n < 256; n += 2) {

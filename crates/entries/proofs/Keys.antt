@@ -5,13 +5,17 @@ use mathlib.Core.Logic.{_⊎_, inl, inr, ⊎-elim}
 use mathlib.Core.Bool.{Bool, true, false, _||_, cond, true≢false}
 use mathlib.Core.List.{List, [], _∷_}
 use Prim.Native.Nat.{ℕ}
+use Prim.Native.Char.{code}
 use lib.Dec.{T, eqb, eqb→eq}
 use borrow.Author.Tests.{ne-eqb}
 use types.Run.{OneOf}
 use Rattle.rules.specs.Sorts.{Sort, noSign, Item, Table}
 use Rattle.rules.specs.Rows.{sortIn}
 use Rattle.rules.specs.Castilian.{castilian}
+use Rattle.rules.specs.Normal.{replacements}
 use Rattle.rules.proofs.Finite.{every, and-left, and-right}
+use Rattle.rules.proofs.Normal.{Replacement}
+use Rattle.rules.proofs.Plain.{oneFor, itself-else}
 use Rattle.entries.specs.Chosen.{choose}
 use Rattle.entries.specs.Entries.{entryOf, word}
 
@@ -102,8 +106,13 @@ absent (i ∷ tb) f c t e =
         absurd (rw w at (and-left (f (i .0)) (every (λ (i : Item). f (i .0)) tb) t))
     go false q ih = ih
 
--- The keys of one side of a bound: those of the other side pass `beyond`.
+-- The keys of one side of a bound: those of the other side pass `beyond`. Also each code point that is taken for one other is a key or beyond.
 pub none-of : (beyond : ℕ → Bool) (ks : List ℕ) (c : ℕ) → T (every (λ (i : Item). beyond (i .0) || among ks (i .0)) castilian)
-    → beyond c ≡ false → among ks c ≡ false → word noSign ≡ entryOf castilian c
+    → T (every (λ (r : Replacement). beyond (code (r .0)) || among ks (code (r .0)) || eqb (oneFor (code (r .0))) (code (r .0))) replacements)
+    → beyond c ≡ false → among ks c ≡ false → word noSign ≡ entryOf castilian (oneFor c)
 unfolding entryOf
-none-of beyond ks c t a b = sym (ap word (absent castilian (λ k. beyond k || among ks k) c t (rw (a, b))))
+none-of beyond ks c t u a b =
+    let none : beyond c || among ks c ≡ false = rw (a, b) in
+    sym
+    (ap (entryOf castilian) (itself-else (λ k. beyond k || among ks k) u c none)
+    ∙ ap word (absent castilian (λ k. beyond k || among ks k) c t none))

@@ -1,4 +1,4 @@
-// Printed by tools/print-entries.sh from crates/rules/specs/Castilian.antt: change that, and print it again.
+// Printed by tools/print-entries.sh from crates/rules/specs/Castilian.antt and Normal.antt: change those, and print it again.
 // The sign list: the word of each code point, by its fields. The check compares each with the rules.
 use crate::A_TO_J;
 use crate::BAR;
@@ -38,6 +38,7 @@ use crate::USUAL;
 ghost use mathlib.Core.Path.{_≡_};
 ghost use Prim.Native.Nat.{_<_, _≤_};
 ghost use Rattle.rules.specs.Castilian.{castilian};
+ghost use Rattle.rules.proofs.Plain.{oneFor};
 ghost use Rattle.entries.specs.Entries.{entryOf};
 
 // The cells, by their dots.
@@ -459,7 +460,7 @@ const UE001: u64 = AS_PAIR_MARK + COUNT * 1 + FIRST * D35 + CLOSER + MARK * 2 * 
 // sign are in two arms, the even ones and the odd: numbers that follow one another in one arm would be compiled to a test of their own.)
 pub fn low(point: u32) -> u64
     requires { ⌜ point < 256 ⌝ }
-    ensures { λ r. ⌜ r ≡ entryOf castilian point ⌝ }
+    ensures { λ r. ⌜ r ≡ entryOf castilian (oneFor point) ⌝ }
 {
     match point {
         0x20 => U0020, // space
@@ -725,14 +726,18 @@ pub fn low(point: u32) -> u64
 // A code point from 256 on.
 pub fn far(point: u32) -> u64
     requires { ⌜ 256 ≤ point ⌝ }
-    ensures { λ r. ⌜ r ≡ entryOf castilian point ⌝ }
+    ensures { λ r. ⌜ r ≡ entryOf castilian (oneFor point) ⌝ }
 {
     match point {
         0x2014 => U2014, // —
         0x2018 => U2018, // ‘
         0x2019 => U2019, // ’
+        0x201c => U00AB, // “ as «
+        0x201d => U00BB, // ” as »
         0x2020 => U2020, // †
         0x2030 => U2030, // ‰
+        0x2039 => U2018, // ‹ as ‘
+        0x203a => U2019, // › as ’
         0x2044 => U2044, // ⁄
         0x20ac => U20AC, // €
         0x20bf => U20BF, // ₿
