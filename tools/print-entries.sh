@@ -2,8 +2,9 @@
 # prints: crates/entries/src/list.rt
 #
 # The sign list as code: the word of each code point by its fields, and the two look-ups. The signs and their cells are read
-# from the definitions (tools/sign-list.awk), so a new sign is a line of crates/rules/specs/Castilian.antt. What is the same
-# for every list, as what each class is, stands below as text.
+# from the definitions (tools/sign-list.awk), so a new sign is a line of crates/rules/specs/Castilian.antt, and a code point that
+# normalising replaces by another is looked up as that one. What is the same for every list, as what each class is, stands below
+# as text.
 #
 # Nothing printed is trusted: the prover compares the word of each code point with the rules.
 set -eu
@@ -14,9 +15,10 @@ LC_ALL=C
 export LC_ALL
 
 signs=$(awk -f tools/sign-list.awk)
+looked_up=$(awk -v arms=1 -f tools/sign-list.awk)
 
 cat <<'TEXT'
-// Printed by tools/print-entries.sh from crates/rules/specs/Castilian.antt: change that, and print it again.
+// Printed by tools/print-entries.sh from crates/rules/specs/Castilian.antt and Normal.antt: change those, and print it again.
 // The sign list: the word of each code point, by its fields. The check compares each with the rules.
 use crate::A_TO_J;
 use crate::BAR;
@@ -56,6 +58,7 @@ use crate::USUAL;
 ghost use mathlib.Core.Path.{_≡_};
 ghost use Prim.Native.Nat.{_<_, _≤_};
 ghost use Rattle.rules.specs.Castilian.{castilian};
+ghost use Rattle.rules.proofs.Plain.{oneFor};
 ghost use Rattle.entries.specs.Entries.{entryOf};
 
 // The cells, by their dots.
@@ -179,28 +182,35 @@ printf '%s\n' "$signs" | awk -F '\t' '
 
 # The arms of the look-up of one part.
 arms() { # PART
-    printf '%s\n' "$signs" | awk -F '\t' -v part="$1" '
-    $3 == part { print "        " $2 " => " $1 ", // " $9 }'
+    printf '%s\n' "$looked_up" | awk -F '\t' -v part="$1" '
+    $3 == part { print "        " $2 " => " $1 ", // " $4 }'
 }
 
 cat <<'TEXT'
-// A code point below 256.
+// A code point below 256. All 256 are named, so that the table, once compiled, is read without a test of where it begins and ends. (Those without a
+// sign are in two arms, the even ones and the odd: numbers that follow one another in one arm would be compiled to a test of their own.)
 pub fn low(point: u32) -> u64
     requires { ⌜ point < 256 ⌝ }
-    ensures { λ r. ⌜ r ≡ entryOf castilian point ⌝ }
+    ensures { λ r. ⌜ r ≡ entryOf castilian (oneFor point) ⌝ }
 {
     match point {
 TEXT
 arms low
+for parity in even odd; do
+    sh tools/unlisted.sh $parity | awk '
+    NR > 1 { print line }
+    { line = (NR == 1 ? "        " : "        | ") $0 }
+    END { print line " => AS_UNLISTED," }'
+done
 cat <<'TEXT'
-        _ => AS_UNLISTED,
+        _ => 0, // there is no other
     }
 }
 
 // A code point from 256 on.
 pub fn far(point: u32) -> u64
     requires { ⌜ 256 ≤ point ⌝ }
-    ensures { λ r. ⌜ r ≡ entryOf castilian point ⌝ }
+    ensures { λ r. ⌜ r ≡ entryOf castilian (oneFor point) ⌝ }
 {
     match point {
 TEXT

@@ -5,11 +5,18 @@
 #     U2030 0x2030 far OTHER_SIGN 456-356-356 none none 0 ‰
 #
 # PART is `low` below 256 and `far` from there on. CLASS is a class of crates/entries/src/lib.rt. CELLS and LOWER are cells
-# by their dots. MARK and KIND are those of a pair mark. The three tools/print-entries*.sh print from these lines.
+# by their dots. MARK and KIND are those of a pair mark. With -v arms=1 it prints the arms of the look-up instead, which are
+# those code points and the ones that normalising replaces by one of them:
+#
+#     NAME KEY PART COMMENT
+#     U00AB 0xab low «
+#     U00AB 0x201c far “ as «
+#
+# The three tools/print-entries*.sh print from these lines.
 #
 # What is read: the table `castilian`, and by name each list that it is made of; `digitDots` in Sorts.antt; `lowerDots` and
-# the clauses of `ownCells` in Signs.antt. So a new sign is a line there and nothing here. What cannot be read is refused.
-# Nothing printed is trusted: the prover compares the word of each code point with the rules.
+# the clauses of `ownCells` in Signs.antt; `replacements` in Normal.antt. So a new sign is a line there and nothing here. What
+# cannot be read is refused. Nothing printed is trusted: the prover compares the word of each code point with the rules.
 #
 # Run it from the top of the repository with LC_ALL=C: awk -f tools/sign-list.awk
 
@@ -28,15 +35,20 @@ function char(n) {
     return sprintf("%c%c%c%c", 240 + int(n / 262144), 128 + int(n / 4096) % 64, 128 + int(n / 64) % 64, 128 + n % 64)
 }
 
-# The code point of a character, found by halving: characters in UTF-8 are in the order of their code points.
-function point(c,    least, most, middle) {
+# The code point of a character, found by halving: characters in UTF-8 are in the order of their code points. 0 for no character, or several.
+function point_or_0(c,    least, most, middle) {
     least = 1; most = 1114111
     while (least < most) {
         middle = int((least + most) / 2)
         if ((char(middle) "") < (c "")) least = middle + 1; else most = middle
     }
-    if ((char(least) "") != (c "")) wrong("not one character: " c)
-    return least
+    return (char(least) "") == (c "") ? least : 0
+}
+
+function point(c,    n) {
+    n = point_or_0(c)
+    if (!n) wrong("not one character: " c)
+    return n
 }
 
 function hexadecimal(digits,    i, n) {
@@ -126,15 +138,17 @@ function truth(w) {
     return w
 }
 
-# "a" or an escape of Rust's
-function literal(w) {
+# the text of "a" or of an escape of Rust's
+function quoted(w) {
     if (w !~ /^"..*"$/) wrong("expected a character in quotes")
     w = substr(w, 2, length(w) - 2)
-    if (w ~ /^\\u[{][0-9A-Fa-f]+[}]$/) return hexadecimal(substr(w, 4, length(w) - 4))
-    if (w == "\\\\" || w == "\\\"") w = substr(w, 2)
-    else if (w ~ /^\\/) wrong("an escape that is not known here")
-    return point(w)
+    if (w ~ /^\\u[{][0-9A-Fa-f]+[}]$/) return char(hexadecimal(substr(w, 4, length(w) - 4)))
+    if (w == "\\\\" || w == "\\\"") return substr(w, 2)
+    if (w ~ /^\\/) wrong("an escape that is not known here")
+    return w
 }
+
+function literal(w) { return point(quoted(w)) }
 
 # code "a", or a number, in parentheses or not
 function read_point(    w, n) {
@@ -179,12 +193,17 @@ function own_cells(sort,    row) {
 
 # ---- the list
 
-function add(n, its_class, its_cells, its_lower, its_mark, its_kind,    i, part) {
+function add(n, its_class, its_cells, its_lower, its_mark, its_kind,    part) {
     if (n in class) wrong(sprintf("U+%04X stands twice in the list", n))
     if (n < 1 || n > 1114111) wrong("there is no such code point")
     if (split(its_cells, part, "-") > 3) wrong("a word has room for three cells")
     if (its_kind > 6) wrong("a word has room for the kinds 0 to 6")
     class[n] = its_class; cells[n] = its_cells; lower[n] = its_lower; mark[n] = its_mark; kind[n] = its_kind
+    enlist(n)
+}
+
+# all are kept in their order
+function enlist(n,    i) {
     for (i = ++count; i > 1 && listed[i - 1] > n; i--) listed[i] = listed[i - 1]
     listed[i] = n
 }
@@ -271,6 +290,22 @@ function read_table(name,    w) {
     shut()
 }
 
+# ("…", "...") ∷ ("“", "«") ∷ .. ∷ []: of these, each that becomes one code point of the list
+function read_replacements(    w, n, one) {
+    open(normal, "replacements")
+    for (w = take(); w != "[]"; w = take()) {
+        if (w != "(") wrong("expected a code point and what it becomes")
+        n = literal(take())
+        if (n in class) wrong("it is replaced, and has a sign")
+        expect(",")
+        one = point_or_0(quoted(take()))
+        expect(")")
+        if (one in class) { taken_for[n] = one; enlist(n) }
+        expect("∷")
+    }
+    shut()
+}
+
 function read_ten(path, name, into) {
     open(path, name)
     if (split(read_dots(), into, "-") != 10) wrong("expected the ten digits")
@@ -281,6 +316,7 @@ BEGIN {
     castilian = "crates/rules/specs/Castilian.antt"
     sorts = "crates/rules/specs/Sorts.antt"
     signs = "crates/rules/specs/Signs.antt"
+    normal = "crates/rules/specs/Normal.antt"
 
     # the class of each sort that has its own cells
     class_of["(fullStop b)"] = "FULL_STOP"
@@ -299,10 +335,13 @@ BEGIN {
     read_ten(sorts, "digitDots", digit_dots)
     read_ten(signs, "lowerDots", lower_dots)
     read_table("castilian")
+    if (arms) read_replacements()
 
     for (i = 1; i <= count; i++) {
         n = listed[i]
-        printf "U%04X\t0x%x\t%s\t%s\t%s\t%s\t%s\t%d\t%s\n", n, n, n < 256 ? "low" : "far", \
-            class[n], cells[n], lower[n], mark[n], kind[n], comment(n)
+        part = n < 256 ? "low" : "far"
+        if (n in taken_for) printf "U%04X\t0x%x\t%s\t%s as %s\n", taken_for[n], n, part, comment(n), comment(taken_for[n])
+        else if (arms) printf "U%04X\t0x%x\t%s\t%s\n", n, n, part, comment(n)
+        else printf "U%04X\t0x%x\t%s\t%s\t%s\t%s\t%s\t%d\t%s\n", n, n, part, class[n], cells[n], lower[n], mark[n], kind[n], comment(n)
     }
 }

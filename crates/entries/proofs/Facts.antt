@@ -17,8 +17,8 @@ use Rattle.entries.specs.Entries.{classIn, markIn, thenIn, usualIn, then
 use Rattle.entries.proofs.Keys.{at-every}
 
 -- what is written as usual in a state has no mark, and is of a class that is usual there
-usual-right : Sort → ℕ → Bool
-usual-right s n = not (usualIn (word s) n) || (eqb (markIn (word s)) 0 && eqb (bits (usualStates (class s)) / 2 ^ (n % 64) % 2) 1)
+usual-right : ℕ → ℕ → ℕ → Bool
+usual-right e u n = not (usualIn e n) || (eqb (markIn e) 0 && eqb (u / 2 ^ (n % 64) % 2) 1)
 
 facts : Sort → List Bool
 facts s =
@@ -26,7 +26,7 @@ facts s =
     ∷ eqb (markIn (word s)) (markNumber (markOf s))
     ∷ ltb (markIn (word s)) marks
     ∷ eqb (thenIn (word s)) (thenOf (class s))
-    ∷ below (usual-right s) states
+    ∷ below (usual-right (word s) (bits (usualStates (class s)))) states
     ∷ []
 
 -- a table whose words have their fields
@@ -52,7 +52,7 @@ unfolding facts usual-right entryOf
 usual-at c s l e =
     implies (usualIn (entryOf castilian c) s)
     (eqb (markIn (entryOf castilian c)) 0 && eqb (bits (usualStates (class (sortIn castilian c))) / 2 ^ (s % 64) % 2) 1)
-    (rw e tt) (at-below (usual-right (sortIn castilian c)) states (at c .1 .1 .1 .1 .0) s l)
+    (rw e tt) (at-below (usual-right (entryOf castilian c) (bits (usualStates (class (sortIn castilian c))))) states (at c .1 .1 .1 .1 .0) s l)
 
 pub worded : Worded castilian
 unfolding facts entryOf

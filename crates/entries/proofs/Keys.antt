@@ -1,16 +1,21 @@
--- Looking up in a sign list. In order: what the `_` arm of a look-up knows; a test of every entry holds at whatever is looked up; a code point
+-- Looking up in a sign list. In order: what the `_` arm of a look-up knows, and an arm of several keys; a test of every entry holds at whatever is looked up; a code point
 -- that is no key has no sign. Assumes nothing.
 use mathlib.Core.Path.{_≡_, refl, sym, ap, _∙_, subst}
 use mathlib.Core.Logic.{_⊎_, inl, inr, ⊎-elim}
 use mathlib.Core.Bool.{Bool, true, false, _||_, cond, true≢false}
 use mathlib.Core.List.{List, [], _∷_}
 use Prim.Native.Nat.{ℕ}
+use Prim.Native.Char.{code}
 use lib.Dec.{T, eqb, eqb→eq}
 use borrow.Author.Tests.{ne-eqb}
+use types.Run.{OneOf}
 use Rattle.rules.specs.Sorts.{Sort, noSign, Item, Table}
 use Rattle.rules.specs.Rows.{sortIn}
 use Rattle.rules.specs.Castilian.{castilian}
+use Rattle.rules.specs.Normal.{replacements}
 use Rattle.rules.proofs.Finite.{every, and-left, and-right}
+use Rattle.rules.proofs.Normal.{Replacement}
+use Rattle.rules.proofs.Plain.{oneFor, itself-else}
 use Rattle.entries.specs.Chosen.{choose}
 use Rattle.entries.specs.Entries.{entryOf, word}
 
@@ -28,6 +33,20 @@ rest-none A [] c r = (r, refl)
 rest-none A (k ∷ ks) c r =
     let i = rest-none (A × (c ≡ k → ⊥)) ks c r in
     (i .0 .0, rw (ne-eqb c k (i .0 .1)) (i .1))
+
+-- what an arm of several keys knows: that it is one of them
+pub told-of : (f : ℕ → Bool) (ks : List ℕ) (c : ℕ) → T (every f ks) → OneOf ks c → T (f c)
+told-of f [] c t o = absurd o
+told-of f (k ∷ []) c t o = subst (λ (n : ℕ). T (f n)) (sym o) (and-left (f k) true t)
+told-of f (k ∷ l ∷ ks) c t o =
+    ⊎-elim (λ e. subst (λ (n : ℕ). T (f n)) (sym e) (and-left (f k) (every f (l ∷ ks)) t))
+    (λ later. told-of f (l ∷ ks) c (and-right (f k) (every f (l ∷ ks)) t) later) o
+
+-- and those behind it: that it is none of them
+pub not-told : (ks : List ℕ) (c : ℕ) → (OneOf ks c → ⊥) → among ks c ≡ false
+not-told [] c r = refl
+not-told (k ∷ []) c r = rw (ne-eqb c k r)
+not-told (k ∷ l ∷ ks) c r = rw (ne-eqb c k (λ e. r (inl e))) (not-told (l ∷ ks) c (λ o. r (inr o)))
 
 -- what is chosen by a number that is none of the keys is what is left
 module _ {A : Type 0} where
@@ -87,8 +106,13 @@ absent (i ∷ tb) f c t e =
         absurd (rw w at (and-left (f (i .0)) (every (λ (i : Item). f (i .0)) tb) t))
     go false q ih = ih
 
--- The keys of one side of a bound: those of the other side pass `beyond`.
+-- The keys of one side of a bound: those of the other side pass `beyond`. Also each code point that is taken for one other is a key or beyond.
 pub none-of : (beyond : ℕ → Bool) (ks : List ℕ) (c : ℕ) → T (every (λ (i : Item). beyond (i .0) || among ks (i .0)) castilian)
-    → beyond c ≡ false → among ks c ≡ false → word noSign ≡ entryOf castilian c
+    → T (every (λ (r : Replacement). beyond (code (r .0)) || among ks (code (r .0)) || eqb (oneFor (code (r .0))) (code (r .0))) replacements)
+    → beyond c ≡ false → among ks c ≡ false → word noSign ≡ entryOf castilian (oneFor c)
 unfolding entryOf
-none-of beyond ks c t a b = sym (ap word (absent castilian (λ k. beyond k || among ks k) c t (rw (a, b))))
+none-of beyond ks c t u a b =
+    let none : beyond c || among ks c ≡ false = rw (a, b) in
+    sym
+    (ap (entryOf castilian) (itself-else (λ k. beyond k || among ks k) u c none)
+    ∙ ap word (absent castilian (λ k. beyond k || among ks k) c t none))

@@ -4,6 +4,7 @@
 ghost use mathlib.Core.Path.{_≡_};
 ghost use Prim.Native.Nat.{_<_, _≤_};
 ghost use Rattle.rules.specs.Castilian.{castilian};
+ghost use Rattle.rules.proofs.Plain.{oneFor};
 ghost use Rattle.entries.specs.Entries.{entryOf, usualIn, thenIn, signIn, firstIn, lowerIn, classIn, markIn};
 
 mod list;
@@ -65,25 +66,25 @@ pub const DASHED: usize = 10;
 
 // The fields of a word, from the lowest: where each stands, and how many values it has room for. What is asked of most code points stands where the
 // machine finds it at once: the states in which it is written as usual lowest, its sign in a half of its own, the state after it highest.
-const USUAL: u64 = 1;
+const USUAL: u64 = 1; // the states in which it is written as usual, a bit for each; there is room for 16
 
-const CLASS: u64 = 65536;
+const CLASS: u64 = 65536; // its class
 
 const CLASS_PLACES: u64 = 16;
 
-const MARK: u64 = 1048576;
+const MARK: u64 = 1048576; // its pair mark
 
 const MARK_PLACES: u64 = 16;
 
-const LOWER: u64 = 16777216;
+const LOWER: u64 = 16777216; // the cell of the lower digit
 
 const CELL_PLACES: u64 = 64;
 
-const SIGN: u64 = 4294967296;
+const SIGN: u64 = 4294967296; // its sign, the upper half: its own cells, with their count before them (src/sign.rt)
 
 const SIGN_PLACES: u64 = 1048576;
 
-const COUNT: u64 = SIGN;
+const COUNT: u64 = SIGN; // how many cells, at most three; then the cells
 
 const FIRST: u64 = SIGN * 4;
 
@@ -91,16 +92,16 @@ const SECOND: u64 = SIGN * 256;
 
 const THIRD: u64 = SIGN * 16384;
 
-const THEN: u64 = 1152921504606846976;
+const THEN: u64 = 1152921504606846976; // the state after it where it is written as usual: the highest, so that nothing is above it
 
 const WORD_BITS: usize = 64;
 
-// Code points below this stand in one table that has no gaps worth speaking of: once compiled, the look-up is one read.
+// Code points below this stand in one table that has no gaps: once compiled, the look-up is one read.
 const DENSE: u32 = 256;
 
-// The word of a code point.
+// The word of a code point. One that becomes another when it is normalised, as “ becomes «, has the word of that one.
 pub fn entry_of(point: u32) -> u64
-    ensures { λ r. ⌜ r ≡ entryOf castilian point ⌝ }
+    ensures { λ r. ⌜ r ≡ entryOf castilian (oneFor point) ⌝ }
 {
     if point < DENSE {
         list::low(point)

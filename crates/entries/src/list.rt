@@ -1,4 +1,4 @@
-// Printed by tools/print-entries.sh from crates/rules/specs/Castilian.antt: change that, and print it again.
+// Printed by tools/print-entries.sh from crates/rules/specs/Castilian.antt and Normal.antt: change those, and print it again.
 // The sign list: the word of each code point, by its fields. The check compares each with the rules.
 use crate::A_TO_J;
 use crate::BAR;
@@ -38,6 +38,7 @@ use crate::USUAL;
 ghost use mathlib.Core.Path.{_≡_};
 ghost use Prim.Native.Nat.{_<_, _≤_};
 ghost use Rattle.rules.specs.Castilian.{castilian};
+ghost use Rattle.rules.proofs.Plain.{oneFor};
 ghost use Rattle.entries.specs.Entries.{entryOf};
 
 // The cells, by their dots.
@@ -455,10 +456,11 @@ const UE000: u64 = AS_PAIR_MARK + COUNT * 1 + FIRST * D35 + OPENER + MARK * 2 * 
 
 const UE001: u64 = AS_PAIR_MARK + COUNT * 1 + FIRST * D35 + CLOSER + MARK * 2 * 4; // emphasis closes
 
-// A code point below 256.
+// A code point below 256. All 256 are named, so that the table, once compiled, is read without a test of where it begins and ends. (Those without a
+// sign are in two arms, the even ones and the odd: numbers that follow one another in one arm would be compiled to a test of their own.)
 pub fn low(point: u32) -> u64
     requires { ⌜ point < 256 ⌝ }
-    ensures { λ r. ⌜ r ≡ entryOf castilian point ⌝ }
+    ensures { λ r. ⌜ r ≡ entryOf castilian (oneFor point) ⌝ }
 {
     match point {
         0x20 => U0020, // space
@@ -566,21 +568,176 @@ pub fn low(point: u32) -> u64
         0xf3 => U00F3, // ó
         0xfa => U00FA, // ú
         0xfc => U00FC, // ü
-        _ => AS_UNLISTED,
+        0x0
+        | 0x2
+        | 0x4
+        | 0x6
+        | 0x8
+        | 0xa
+        | 0xc
+        | 0xe
+        | 0x10
+        | 0x12
+        | 0x14
+        | 0x16
+        | 0x18
+        | 0x1a
+        | 0x1c
+        | 0x1e
+        | 0x22
+        | 0x2a
+        | 0x40
+        | 0x5e
+        | 0x60
+        | 0x7c
+        | 0x7e
+        | 0x80
+        | 0x82
+        | 0x84
+        | 0x86
+        | 0x88
+        | 0x8a
+        | 0x8c
+        | 0x8e
+        | 0x90
+        | 0x92
+        | 0x94
+        | 0x96
+        | 0x98
+        | 0x9a
+        | 0x9c
+        | 0x9e
+        | 0xa0
+        | 0xa4
+        | 0xa6
+        | 0xa8
+        | 0xac
+        | 0xae
+        | 0xb0
+        | 0xb2
+        | 0xb4
+        | 0xb6
+        | 0xb8
+        | 0xbc
+        | 0xbe
+        | 0xc0
+        | 0xc2
+        | 0xc4
+        | 0xc6
+        | 0xc8
+        | 0xca
+        | 0xcc
+        | 0xce
+        | 0xd0
+        | 0xd2
+        | 0xd4
+        | 0xd6
+        | 0xd8
+        | 0xde
+        | 0xe0
+        | 0xe2
+        | 0xe4
+        | 0xe6
+        | 0xe8
+        | 0xea
+        | 0xec
+        | 0xee
+        | 0xf0
+        | 0xf2
+        | 0xf4
+        | 0xf6
+        | 0xf8
+        | 0xfe => AS_UNLISTED,
+        0x1
+        | 0x3
+        | 0x5
+        | 0x7
+        | 0x9
+        | 0xb
+        | 0xd
+        | 0xf
+        | 0x11
+        | 0x13
+        | 0x15
+        | 0x17
+        | 0x19
+        | 0x1b
+        | 0x1d
+        | 0x1f
+        | 0x23
+        | 0x27
+        | 0x2b
+        | 0x5b
+        | 0x5d
+        | 0x5f
+        | 0x7f
+        | 0x81
+        | 0x83
+        | 0x85
+        | 0x87
+        | 0x89
+        | 0x8b
+        | 0x8d
+        | 0x8f
+        | 0x91
+        | 0x93
+        | 0x95
+        | 0x97
+        | 0x99
+        | 0x9b
+        | 0x9d
+        | 0x9f
+        | 0xa7
+        | 0xa9
+        | 0xad
+        | 0xaf
+        | 0xb1
+        | 0xb3
+        | 0xb5
+        | 0xb7
+        | 0xb9
+        | 0xbd
+        | 0xc3
+        | 0xc5
+        | 0xc7
+        | 0xcb
+        | 0xcf
+        | 0xd5
+        | 0xd7
+        | 0xd9
+        | 0xdb
+        | 0xdd
+        | 0xdf
+        | 0xe3
+        | 0xe5
+        | 0xe7
+        | 0xeb
+        | 0xef
+        | 0xf5
+        | 0xf7
+        | 0xf9
+        | 0xfb
+        | 0xfd
+        | 0xff => AS_UNLISTED,
+        _ => 0, // there is no other
     }
 }
 
 // A code point from 256 on.
 pub fn far(point: u32) -> u64
     requires { ⌜ 256 ≤ point ⌝ }
-    ensures { λ r. ⌜ r ≡ entryOf castilian point ⌝ }
+    ensures { λ r. ⌜ r ≡ entryOf castilian (oneFor point) ⌝ }
 {
     match point {
         0x2014 => U2014, // —
         0x2018 => U2018, // ‘
         0x2019 => U2019, // ’
+        0x201c => U00AB, // “ as «
+        0x201d => U00BB, // ” as »
         0x2020 => U2020, // †
         0x2030 => U2030, // ‰
+        0x2039 => U2018, // ‹ as ‘
+        0x203a => U2019, // › as ’
         0x2044 => U2044, // ⁄
         0x20ac => U20AC, // €
         0x20bf => U20BF, // ₿

@@ -8,6 +8,7 @@ pub mod Rows
 pub mod Pieces
 pub mod Pairs
 pub mod Normal
+pub mod Plain
 pub mod Reader
 pub mod Profile
 pub mod Castilian

@@ -25,7 +25,7 @@ use Rattle.rules.proofs.Sides.{in-digits, rule, after, future}
 use Rattle.rules.proofs.Enumerations.{classes, pasts, futures, class-same}
 use Rattle.rules.proofs.Pieces.{Passes, Good}
 
-abbrev Replacement : Type 0
+abbrev pub Replacement : Type 0
 Replacement = Char × String
 
 -- a code point that is kept: no replacement is for it
@@ -180,7 +180,7 @@ unfolding normalOf
 normal-length t = length-after false t
 
 -- and none becomes nothing: the normalised print is at least as long
-some-becomes : (d : Bool) (c : ℕ) → 1 ≤ length (becomes d c)
+pub some-becomes : (d : Bool) (c : ℕ) → 1 ≤ length (becomes d c)
 some-becomes d c = go (d && isOrdinalPoint c)
   where
     some-length : (w : Text) → T (not-empty w) → 1 ≤ length w
@@ -193,7 +193,7 @@ some-becomes d c = go (d && isOrdinalPoint c)
         ⊎-elim (λ k. omega (arith, ap length (kept-same replacements c k)))
         (λ h. omega (arith, ap length (h .2), some-length (print (h .0 .1)) (hold (facts (h .0)) (h .3) .1 .1 .0))) (kept-or-replaced c)
 
-longer-after : (d : Bool) (t : Text) → length t ≤ length (normalAfter d t)
+pub longer-after : (d : Bool) (t : Text) → length t ≤ length (normalAfter d t)
 unfolding normalAfter
 longer-after d [] = omega arith
 longer-after d (c ∷ t) =

@@ -21,6 +21,7 @@ ghost use lib.ListN.{length, take};
 ghost use Rattle.rules.specs.Castilian.{castilian};
 ghost use Rattle.rules.specs.Normal.{normalOf};
 ghost use Rattle.rules.specs.Refusals.{longestText};
+ghost use Rattle.rules.proofs.Plain.{plainly};
 ghost use Rattle.rows.specs.Laid.{laid};
 ghost use Rattle.entries.specs.SignWords.{cellsIn};
 ghost use Rattle.transcriber.specs.Promise.{Transcribed};
@@ -102,7 +103,7 @@ fn fault_of(deed: usize, place: usize) -> Answer
 // table has a question. (A pair mark is never written as usual, so the usual way need not ask for one.)
 fn draw(text: &[u32], signs: &mut [u32]) -> Measured
     requires { ⌜ (length (now text) ≤ longestText) × (length (now text) ≤ length (now signs)) ⌝ }
-    ensures { λ r. ⌜ (r ≡ measuredOf castilian (now (text .entry))) × Drawn r castilian (now (text .entry)) (take (length (now (text .entry))) (now (signs .exit))) ⌝ }
+    ensures { λ r. ⌜ (r ≡ measuredOf castilian (plainly (now (text .entry)))) × Drawn r castilian (plainly (now (text .entry))) (take (length (now (text .entry))) (now (signs .exit))) ⌝ }
 {
     let mut opened: usize = 0;
     let mut state: usize = FREE;
@@ -195,7 +196,7 @@ fn fitted(signs: &[u32], row: &mut [u8], n: usize) -> Answer
 // A normalised text, with room for a sign for each of its code points.
 fn transcribe_by(text: &[u32], signs: &mut [u32], row: &mut [u8]) -> Answer
     requires { ⌜ (length (now text) ≤ longestText) × (length (now text) ≤ length (now signs)) ⌝ }
-    ensures { λ r. ⌜ (r ≡ answerOf castilian (now (text .entry)) (length (now (row .entry)))) × (now (row .exit) ≡ outOf castilian (now (text .entry)) (now (row .entry))) ⌝ }
+    ensures { λ r. ⌜ (r ≡ answerOf castilian (plainly (now (text .entry))) (length (now (row .entry)))) × (now (row .exit) ≡ outOf castilian (plainly (now (text .entry))) (now (row .entry))) ⌝ }
 {
     let measured = draw(text, signs);
     match measured {
@@ -207,7 +208,7 @@ fn transcribe_by(text: &[u32], signs: &mut [u32], row: &mut [u8]) -> Answer
 // A normalised text. A short one has a short array of signs cleared for it.
 fn transcribe_normal(text: &[u32], row: &mut [u8]) -> Answer
     requires { ⌜ length (now text) ≤ longestText ⌝ }
-    ensures { λ r. ⌜ (r ≡ answerOf castilian (now (text .entry)) (length (now (row .entry)))) × (now (row .exit) ≡ outOf castilian (now (text .entry)) (now (row .entry))) ⌝ }
+    ensures { λ r. ⌜ (r ≡ answerOf castilian (plainly (now (text .entry))) (length (now (row .entry)))) × (now (row .exit) ≡ outOf castilian (plainly (now (text .entry))) (now (row .entry))) ⌝ }
 {
     if text.len() <= LINE {
         let mut signs = [0u32; LINE];

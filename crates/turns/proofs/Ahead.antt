@@ -1,12 +1,13 @@
 -- What stands from a place on, as reading ahead finds it: each law is one test over class and future, moved to a place of a text. A place past the
--- end has code point 0, which has no sign, so that no law asks for the text's length. For any table in which 0 has none. Assumes nothing.
+-- end has code point 0, which has no sign, so that no law asks for the text's length. For any table in which 0 has none. Last: in the Castilian one,
+-- reading ahead finds the same whether “ is taken for « or not (`future-plainly`). Assumes nothing.
 use mathlib.Core.Path.{_≡_, refl, sym, ap, _∙_}
 use mathlib.Core.Bool.{Bool, true, false, _&&_, _||_, not, cond, Bool·beq}
 use mathlib.Core.List.{List, [], _∷_}
 use Prim.Native.Nat.{ℕ, zero, suc, _+_, _≤_}
 use native.Mathlib.Numerals.{add-one}
 use lib.Dec.{T}
-use lib.ListN.{length, getD, drop-of-length-le}
+use lib.ListN.{length, getD, drop, drop-of-length-le}
 use Rattle.rules.specs.Sorts.{Table, Class, unlisted, aStop, aBar, class, _is_, isDigit, isOrdinal}
 use Rattle.rules.specs.Rows.{sortIn, itemIn, itemsIn}
 use Rattle.rules.specs.Castilian.{castilian}
@@ -14,6 +15,7 @@ use Rattle.rules.proofs.Finite.{every2, at2, beq-same, implies}
 use Rattle.rules.proofs.States.{Future, rest}
 use Rattle.rules.proofs.Enumerations.{classes, futures}
 use Rattle.rules.proofs.Sides.{caps-next, mixed-next, form-next, digit-next, mark-next, look, future}
+use Rattle.rules.proofs.Plain.{oneFor, plainly, one-law, plainly-drop}
 use Rattle.turns.specs.Stages.{isSmall, isCapital, classAt, futureAt, endsForm}
 
 -- a fact of the future by what stands at the place and the future behind it
@@ -91,3 +93,20 @@ module _ (tb : Table) (none-at-zero : class (sortIn tb 0) ≡ unlisted) where
       ∙ seen-where (λ c. not (isDigit c)) form-next (λ c f. cond (c is aStop) (mark-next f) (cond (c is aBar) (digit-next f) false)) tt
       (classAt tb text i) (futureAt tb text (i + 1)) (ap not e)
       ∙ rw (mark-at text (i + 1), digit-at text (i + 1))
+
+-- PRINT TAKEN PLAINLY. To what stands before it, a code point without a sign is as a pair mark is: nothing that a rule asks for.
+look-one : (c : ℕ) (f : Future) → look (class (sortIn castilian (oneFor c))) f ≡ look (class (sortIn castilian c)) f
+unfolding oneFor castilian sortIn class look
+look-one c f =
+    one-law (λ x y. look (class (sortIn castilian x)) f ≡ look (class (sortIn castilian y)) f) (λ k. refl)
+    (refl, (refl, (refl, (refl, (refl, tt))))) c
+
+future-whole : (p : List ℕ) → future (itemsIn castilian (plainly p)) ≡ future (itemsIn castilian p)
+unfolding future itemsIn itemIn plainly
+future-whole [] = refl
+future-whole (c ∷ p) =
+    look-one c (future (itemsIn castilian (plainly p))) ∙ ap (λ (f : Future). look (class (sortIn castilian c)) f) (future-whole p)
+
+pub future-plainly : (p : List ℕ) (i : ℕ) → futureAt castilian (plainly p) i ≡ futureAt castilian p i
+unfolding futureAt
+future-plainly p i = ap (λ (t : List ℕ). future (itemsIn castilian t)) (plainly-drop i p) ∙ future-whole (drop i p)

@@ -3,17 +3,20 @@
 use mathlib.Core.Path.{_≡_, sym, ap, _∙_, subst}
 use mathlib.Core.List.{List}
 use mathlib.Core.Logic.{⊎-elim}
-use Prim.Native.Nat.{ℕ, _+_, _-_, _%_, _<_}
+use Prim.Native.Nat.{ℕ, _+_, _-_, _%_, _≤_, _<_}
 use native.Mathlib.Omega.{arith}
 use borrow.Author.Needs.{needs}
-use lib.ListN.{length, getD}
+use lib.ListN.{length, getD, take}
 use Rattle.rules.specs.Castilian.{castilian}
 use Rattle.rules.proofs.States.{Past}
+use Rattle.rules.proofs.Rows.{whole-row}
+use Rattle.rules.proofs.Plain.{plainly, plainly-length, plainly-at}
 use Rattle.entries.specs.Entries.{entryOf, classIn, signIn, thenIn, markIn, usualIn}
 use Rattle.turns.specs.Stages.{futureAt, deedOf, settledBy}
 use Rattle.turns.proofs.Machine.{settled-low}
-use Rattle.transcriber.specs.Passes.{signBy}
-use Rattle.transcriber.specs.declared.Measured.the-variants.{Refused}
+use Rattle.turns.proofs.Ahead.{future-plainly}
+use Rattle.transcriber.specs.Passes.{signBy, joined, measuredOf}
+use Rattle.transcriber.specs.declared.Measured.the-variants.{Cells, Refused}
 use Rattle.transcriber.proofs.Going.{held}
 use Rattle.transcriber.proofs.Drawing.{Mid, Passed, some-number, passed-none, passed-mark, not-passed, mark-small, act-is, passed-usual, went-deed, went-usual, mid-start, mid-broken, mid-fault, mid-on, mid-done, mid-open}
 use Rattle.transcriber.proofs.draw.Statement.{statement}
@@ -34,7 +37,7 @@ use Rattle.turns.proofs.deed_of.Reads as deed-of-reads
 use Rattle.turns.proofs.settled.Reads as settled-reads
 
 abbrev Inv-loop : tie.InvT-loop
-Inv-loop text signs₀ opened₀ state₀ n₀ i₀ signs opened state n i = Mid castilian text signs₀ signs opened state n i
+Inv-loop text signs₀ opened₀ state₀ n₀ i₀ signs opened state n i = Mid castilian (plainly text) signs₀ signs opened state n i
 
 abbrev μ-loop : tie.MeasureT-loop
 μ-loop text signs₀ opened₀ state₀ n₀ i₀ signs opened state n i = length text - i
@@ -46,8 +49,15 @@ L = tie.At-loop Inv-loop μ-loop
 abbrev start : L → tie.Start Inv-loop μ-loop
 start l = l .before .before .before
 
+abbrev print : L → List ℕ
+print l = start l .args .text .now
+
 abbrev text : L → List ℕ
-text l = start l .args .text .now
+text l = plainly (print l)
+
+-- it is as long as the print
+long : (l : L) → length (text l) ≡ length (print l)
+long l = plainly-length (print l)
 
 abbrev signs₀ : L → List ℕ
 signs₀ l = start l .args .signs .now
@@ -65,10 +75,13 @@ abbrev at-u : U → L
 at-u u = u .before .before .before .before
 
 inside : (u : U) → at-u u .loop .i < length (text (at-u u))
-inside u = u .before .before .before .loop-test .taken
+inside u = subst (λ (n : ℕ). at-u u .loop .i < n) (sym (long (at-u u))) (u .before .before .before .loop-test .taken)
 
 entry-is : (u : U) → u .before .entry-of .result ≡ entry (at-u u)
-entry-is u = u .before .entry-of .ensures
+entry-is u = u .before .entry-of .ensures ∙ ap (entryOf castilian) (sym (plainly-at (print (at-u u)) (at-u u .loop .i)))
+
+ended : (l : L) → length (print l) ≤ l .loop .i → length (text l) ≤ l .loop .i
+ended l e = subst (λ (n : ℕ). n ≤ l .loop .i) (sym (long l)) e
 
 -- whether it is written as usual, by its word
 usual-told : (u : U) → let l = at-u u in u .is-usual .result ≡ usualIn (entry l) (l .loop .state)
@@ -120,11 +133,14 @@ deed-told c =
     let told : c .before .deed-of .result ≡ deedOf (l .loop .state) (classIn (entry l)) =
     c .before .deed-of .ensures ∙ ap (deedOf (l .loop .state)) (c .before .before .class-in .ensures ∙ ap classIn (entry-is u))
     in
-    ⊎-elim (λ j. j .1 ∙ sym (settled-low (c .before .deed-of .result) f (j .0 .taken))) (λ j. j .2 ∙ j .1 .ensures) (c .if3 .came)
+    ⊎-elim (λ j. j .1 ∙ sym (settled-low (c .before .deed-of .result) f (j .0 .taken))) (λ j. j .2 ∙ j .1 .ensures ∙ ap (settledBy (c .before .deed-of .result)) (sym (future-plainly (print l) (l .loop .i + 1)))) (c .if3 .came)
     ∙ ap (λ (d : ℕ). settledBy d f) told
 
 loop-holds : tie.Need-loop-holds Inv-loop μ-loop
-loop-holds c = mid-start castilian held (c .before .before .args .text .now) (c .before .before .args .signs .now) (c .before .before .pre .1)
+loop-holds c =
+    let s = c .before .before in
+    let p = s .args .text .now in
+    mid-start castilian held (plainly p) (s .args .signs .now) (subst (λ (n : ℕ). n ≤ length (s .args .signs .now)) (sym (plainly-length p)) (s .pre .1))
 
 mul-entry-of : tie.Need-mul-entry-of Inv-loop μ-loop
 mul-entry-of c = search needs
@@ -153,7 +169,7 @@ count-of-requires c κs = search needs
 add-n : tie.Need-add-n Inv-loop μ-loop
 add-n c =
     let l = at-u (c .before .before .before) in
-    omega (arith, c .count-of .ensures .1, l .loop .inv .low, l .loop .inv .inside, start l .pre .0)
+    omega (arith, c .count-of .ensures .1, l .loop .inv .low, l .loop .inv .inside, long l, start l .pre .0)
 
 then-in-requires : tie.Need-then-in-requires Inv-loop μ-loop
 then-in-requires c κs = search needs
@@ -234,7 +250,7 @@ count-of-requires-2 c κs = search needs
 add-n-2 : tie.Need-add-n-2 Inv-loop μ-loop
 add-n-2 c =
     let l = at-u (from-j (from-d (c .before .before .before .before))) in
-    omega (arith, c .count-of2 .ensures .1, l .loop .inv .low, l .loop .inv .inside, start l .pre .0)
+    omega (arith, c .count-of2 .ensures .1, l .loop .inv .low, l .loop .inv .inside, long l, start l .pre .0)
 
 add-i : tie.Need-add-i Inv-loop μ-loop
 add-i c = search needs
@@ -268,8 +284,9 @@ same-length-3 c = search needs
 returns-3 : tie.Need-returns-3 Inv-loop μ-loop
 returns-3 c =
     let l = c .before .before in
-    mid-done castilian held (text l) (signs₀ l) (l .loop .signs) (l .loop .opened) (l .loop .state) (l .loop .n) (l .loop .i) (l .loop .inv)
-    (c .before .loop-test .left) (c .if5 .taken)
+    subst (λ (n : ℕ). (Cells (l .loop .n) ≡ measuredOf castilian (text l)) × (joined (take n (l .loop .signs)) ≡ whole-row castilian (text l))) (long l)
+    (mid-done castilian held (text l) (signs₀ l) (l .loop .signs) (l .loop .opened) (l .loop .state) (l .loop .n) (l .loop .i) (l .loop .inv)
+    (ended l (c .before .loop-test .left)) (c .if5 .taken))
 
 same-length-4 : tie.Need-same-length-4 Inv-loop μ-loop
 same-length-4 c = search needs
@@ -278,7 +295,7 @@ returns-4 : tie.Need-returns-4 Inv-loop μ-loop
 returns-4 c =
     let l = c .before .before in (
       mid-open castilian held (text l) (signs₀ l) (l .loop .signs) (l .loop .opened) (l .loop .state) (l .loop .n) (l .loop .i) (l .loop .inv)
-          (c .before .loop-test .left) (c .if5 .left),
+          (ended l (c .before .loop-test .left)) (c .if5 .left),
       tt,
     )
 

@@ -1,5 +1,6 @@
--- `transcribe`: a print that is too long is longer still when normalised; one that the rules accept is normal, and so is its own text; any other is
--- refused as it is, where it is normal, and otherwise goes through the copy, to a row that is as it was. Assumes nothing.
+-- `transcribe`: a print that is too long is longer still when normalised; one that the rules accept, with « for “, is normal so, and that is its
+-- normalised text (`plain-is`); any other is refused as it is, where it is normal, and otherwise goes through the copy, to a row that is as it was.
+-- Assumes nothing.
 use mathlib.Core.Path.{_≡_, sym, ap, _∙_, subst}
 use mathlib.Core.Bool.{Bool, true, false}
 use mathlib.Core.List.{List}
@@ -10,6 +11,7 @@ use Rattle.rules.specs.Castilian.{castilian}
 use Rattle.rules.specs.Normal.{normalOf}
 use Rattle.rules.specs.Refusals.{longestText}
 use Rattle.rules.proofs.Normal.{normal-longer}
+use Rattle.rules.proofs.Plain.{plainly, plainly-length, normal-plainly, plainly-normal}
 use Rattle.rules.proofs.Rows.{whole-row, good-reads}
 use Rattle.rules.proofs.Demands.{accepted-is-normal}
 use Rattle.normal.specs.Same.{TellsNormal}
@@ -37,6 +39,10 @@ start n = n .before .before .before .before .before
 abbrev print : N → List ℕ
 print n = start n .args .print .now
 
+-- with « for “
+abbrev text : N → List ℕ
+text n = plainly (print n)
+
 abbrev row : N → List ℕ
 row n = start n .args .row .now
 
@@ -47,13 +53,15 @@ A = tie.After-accepts
 abbrev from-a : A → N
 from-a a = a .before .before .before
 
-told : (a : A) (b : Bool) → a .accepts .result ≡ b → acceptedBy (answerOf castilian (print (from-a a)) (length (row (from-a a)))) ≡ b
+told : (a : A) (b : Bool) → a .accepts .result ≡ b → acceptedBy (answerOf castilian (text (from-a a)) (length (row (from-a a)))) ≡ b
 told a b e = ap acceptedBy (sym (from-a a .transcribe-normal .ensures .0)) ∙ sym (a .accepts .ensures) ∙ e
 
--- the answer to a print that is normal is the promised one
-same : (n : N) → normalOf (print n) ≡ print n → Transcribed castilian (print n) (row n) (n .transcribe-normal .result) (n .transcribe-normal .last .1 .0)
+-- the answer to a print that is normal with « for “ is the promised one
+same : (n : N) → normalOf (text n) ≡ text n → Transcribed castilian (print n) (row n) (n .transcribe-normal .result) (n .transcribe-normal .last .1 .0)
 same n e =
-    carried castilian (print n) (row n) (subst (λ (t : List ℕ). length t ≤ longestText) (sym e) (n .before .before .if1 .left)) (print n) (sym e) _ _
+    let plain-is : text n ≡ normalOf (print n) = sym e ∙ normal-plainly (print n) in
+    carried castilian (print n) (row n)
+    (subst (λ (k : ℕ). k ≤ longestText) (sym (plainly-length (print n)) ∙ ap length plain-is) (n .before .before .if1 .left)) (text n) plain-is _ _
     (n .transcribe-normal .ensures)
 
 normal-length-requires : tie.Need-normal-length-requires
@@ -79,8 +87,8 @@ returns-2 c =
     let a = c .before in
     let n = from-a a in
     same n
-    (accepted-is-normal (print n)
-    (whole-row castilian (print n), good-reads castilian (print n) (accepted-good castilian (print n) (row n) (told a true (c .if2 .taken)))))
+    (accepted-is-normal (text n)
+    (whole-row castilian (text n), good-reads castilian (text n) (accepted-good castilian (text n) (row n) (told a true (c .if2 .taken)))))
 
 is-normal-requires : tie.Need-is-normal-requires
 is-normal-requires c κs = search needs
@@ -92,7 +100,8 @@ returns-3 : tie.Need-returns-3
 returns-3 c =
     let i = c .before in
     let n = from-a (i .before .before) in
-    same n (subst (λ (b : Bool). TellsNormal b (print n)) (c .if3 .taken) (i .is-normal .ensures))
+    let e : normalOf (print n) ≡ print n = subst (λ (b : Bool). TellsNormal b (print n)) (c .if3 .taken) (i .is-normal .ensures) in
+    same n (normal-plainly (print n) ∙ e ∙ sym (plainly-normal (print n) e))
 
 transcribe-copy-requires : tie.Need-transcribe-copy-requires
 transcribe-copy-requires c κs = search needs
@@ -106,7 +115,7 @@ returns-4 c =
     let e = t .before .before .before .before in
     let n = from-a (e .before) in
     subst (λ (x : List ℕ). Transcribed castilian (print n) x (t .transcribe-copy .result) (t .transcribe-copy .last .1 .0))
-    (n .transcribe-normal .ensures .1 ∙ refused-kept castilian (print n) (row n) (told (e .before) false (e .if2 .left))) (t .transcribe-copy .ensures)
+    (n .transcribe-normal .ensures .1 ∙ refused-kept castilian (text n) (row n) (told (e .before) false (e .if2 .left))) (t .transcribe-copy .ensures)
 
 pub transcribe-spec : {M : Type 1} → statement M
 transcribe-spec =

@@ -6,6 +6,7 @@ use lib.ListN.{length, take}
 use lib.Seq.{length-take-le}
 use Rattle.rules.specs.Castilian.{castilian}
 use Rattle.rules.proofs.Rows.{whole-row}
+use Rattle.rules.proofs.Plain.{plainly}
 use Rattle.transcriber.specs.Passes.{joined, measuredOf, Drawn}
 use Rattle.transcriber.specs.declared.Measured.{Measured}
 use Rattle.transcriber.specs.declared.Measured.the-variants.{Cells}
@@ -25,11 +26,14 @@ D = tie.After-draw
 abbrev start : D → tie.Start
 start d = d .before .before .before .before .before
 
+abbrev print : D → List ℕ
+print d = start d .args .text .now
+
 abbrev text : D → List ℕ
-text d = start d .args .text .now
+text d = plainly (print d)
 
 abbrev signs : D → List ℕ
-signs d = take (length (text d)) (d .draw .last .1 .0)
+signs d = take (length (print d)) (d .draw .last .1 .0)
 
 -- the text is accepted: the count, and the cells of the signs
 abbrev K : Type 0
@@ -56,8 +60,8 @@ slice-reshare-prefix-fitted c = search needs
 slice-aggregate-fitted : tie.Need-slice-aggregate-fitted
 slice-aggregate-fitted c =
     let d = from-k (c .before) in
-    let room : length (text d) ≤ length (d .draw .last .1 .0) = search needs in
-    sym (length-take-le (length (text d)) (d .draw .last .1 .0) room)
+    let room : length (print d) ≤ length (d .draw .last .1 .0) = search needs in
+    sym (length-take-le (length (print d)) (d .draw .last .1 .0) room)
 
 fitted-requires : tie.Need-fitted-requires
 fitted-requires c κs =

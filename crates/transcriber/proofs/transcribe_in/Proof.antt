@@ -8,6 +8,8 @@ use lib.ListN.{length, take}
 use Rattle.rules.specs.Castilian.{castilian}
 use Rattle.rules.specs.Normal.{normalOf}
 use Rattle.rules.specs.Refusals.{longestText}
+use Rattle.rules.proofs.Plain.{plainly, plainly-normal}
+use Rattle.rules.proofs.Demands.{normal-twice}
 use Rattle.rows.proofs.Laid.{front, length-laid}
 use Rattle.normal.specs.declared.Normalised.{Normalised}
 use Rattle.normal.specs.declared.Normalised.the-variants.{Text, NoRoom}
@@ -94,7 +96,9 @@ returns c =
     let t = c .before .before in
     let k = t .before .before .before in
     let n = from-k k in
-    carried castilian (print n) (row n) (made k .0) _ (text-is k) _ _ (t .transcribe-normal .ensures)
+    let plain : plainly (take (made-length k) (text n)) ≡ normalOf (print n) =
+    ap plainly (text-is k) ∙ plainly-normal (normalOf (print n)) (normal-twice (print n)) in
+    carried castilian (print n) (row n) (made k .0) _ plain _ _ (t .transcribe-normal .ensures)
 
 same-length-3 : tie.Need-same-length-3
 same-length-3 c = search needs

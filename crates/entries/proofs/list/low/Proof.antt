@@ -1,19 +1,23 @@
 -- Printed by tools/print-entries-low.sh: change that.
--- `list::low`: at each key antt computes both sides; any other code point is none of the sign list's (`none-of`). Assumes nothing.
+-- `list::low`: at each key antt computes both sides; a code point of the last two arms is none of the sign list's (`none-of`); and every one below 256 stands
+-- in some arm. Assumes nothing.
 use mathlib.Core.Path.{_≡_, sym, ap}
+use mathlib.Core.Bool.{false, _||_, not}
 use mathlib.Core.List.{List, [], _∷_}
-use Prim.Native.Nat.{ℕ}
-use lib.Dec.{leb, ltb}
-use borrow.Author.Tests.{lt-leb, le-ltb}
+use Prim.Native.Nat.{ℕ, _<_}
+use lib.Dec.{T, leb}
+use borrow.Author.Tests.{lt-leb}
+use Rattle.rules.proofs.Finite.{below, at-below, false-of}
 use Rattle.rules.specs.Castilian.{castilian}
 use Rattle.rules.specs.Cells.{dots}
-use Rattle.rules.specs.Sorts.{class, isDigitCell}
+use Rattle.rules.specs.Sorts.{noSign, class, isDigitCell}
 use Rattle.rules.specs.Signs.{ownCells, lowerCells}
 use Rattle.rules.specs.Pairs.{markOf}
 use Rattle.rules.specs.Rows.{sortIn}
+use Rattle.rules.proofs.Plain.{oneFor}
 use Rattle.entries.specs.SignWords.{signOf}
 use Rattle.entries.specs.Entries.{entryOf, word, thenOf, usualStates, bits, markNumber, usualsOf}
-use Rattle.entries.proofs.Keys.{none-of, rest-none}
+use Rattle.entries.proofs.Keys.{among, none-of, rest-none, told-of, not-told}
 use Rattle.entries.proofs.list.low.Statement.{statement}
 use Rattle.entries.proofs.list.low.Tie as tie
 
@@ -27,120 +31,163 @@ keys =
     ∷ 0x7d ∷ 0xa1 ∷ 0xa2 ∷ 0xa3 ∷ 0xa5 ∷ 0xaa ∷ 0xab ∷ 0xba ∷ 0xbb ∷ 0xbf ∷ 0xc1 ∷ 0xc9 ∷ 0xcd ∷ 0xd1 ∷ 0xd3 ∷ 0xda
     ∷ 0xdc ∷ 0xe1 ∷ 0xe9 ∷ 0xed ∷ 0xf1 ∷ 0xf3 ∷ 0xfa ∷ 0xfc ∷ []
 
-other : tie.Need-returns-106
-unfolding keys entryOf word thenOf usualsOf usualStates bits markNumber signOf sortIn castilian class isDigitCell ownCells lowerCells markOf dots
+unlisted : (c : ℕ) → c < 256 → among keys c ≡ false → word noSign ≡ entryOf castilian (oneFor c)
+unfolding keys oneFor entryOf word thenOf usualsOf usualStates bits markNumber signOf sortIn castilian class isDigitCell ownCells lowerCells markOf dots
+unlisted c l e = none-of (λ k. leb 256 k) keys c tt tt (lt-leb 256 c l) e
+
+even : List ℕ
+even =
+    0x0 ∷ 0x2 ∷ 0x4 ∷ 0x6 ∷ 0x8 ∷ 0xa ∷ 0xc ∷ 0xe ∷ 0x10 ∷ 0x12 ∷ 0x14 ∷ 0x16 ∷ 0x18 ∷ 0x1a ∷ 0x1c ∷ 0x1e ∷ 0x22 ∷ 0x2a
+    ∷ 0x40 ∷ 0x5e ∷ 0x60 ∷ 0x7c ∷ 0x7e ∷ 0x80 ∷ 0x82 ∷ 0x84 ∷ 0x86 ∷ 0x88 ∷ 0x8a ∷ 0x8c ∷ 0x8e ∷ 0x90 ∷ 0x92 ∷ 0x94
+    ∷ 0x96 ∷ 0x98 ∷ 0x9a ∷ 0x9c ∷ 0x9e ∷ 0xa0 ∷ 0xa4 ∷ 0xa6 ∷ 0xa8 ∷ 0xac ∷ 0xae ∷ 0xb0 ∷ 0xb2 ∷ 0xb4 ∷ 0xb6 ∷ 0xb8
+    ∷ 0xbc ∷ 0xbe ∷ 0xc0 ∷ 0xc2 ∷ 0xc4 ∷ 0xc6 ∷ 0xc8 ∷ 0xca ∷ 0xcc ∷ 0xce ∷ 0xd0 ∷ 0xd2 ∷ 0xd4 ∷ 0xd6 ∷ 0xd8 ∷ 0xde
+    ∷ 0xe0 ∷ 0xe2 ∷ 0xe4 ∷ 0xe6 ∷ 0xe8 ∷ 0xea ∷ 0xec ∷ 0xee ∷ 0xf0 ∷ 0xf2 ∷ 0xf4 ∷ 0xf6 ∷ 0xf8 ∷ 0xfe ∷ []
+
+odd : List ℕ
+odd =
+    0x1 ∷ 0x3 ∷ 0x5 ∷ 0x7 ∷ 0x9 ∷ 0xb ∷ 0xd ∷ 0xf ∷ 0x11 ∷ 0x13 ∷ 0x15 ∷ 0x17 ∷ 0x19 ∷ 0x1b ∷ 0x1d ∷ 0x1f ∷ 0x23 ∷ 0x27
+    ∷ 0x2b ∷ 0x5b ∷ 0x5d ∷ 0x5f ∷ 0x7f ∷ 0x81 ∷ 0x83 ∷ 0x85 ∷ 0x87 ∷ 0x89 ∷ 0x8b ∷ 0x8d ∷ 0x8f ∷ 0x91 ∷ 0x93 ∷ 0x95
+    ∷ 0x97 ∷ 0x99 ∷ 0x9b ∷ 0x9d ∷ 0x9f ∷ 0xa7 ∷ 0xa9 ∷ 0xad ∷ 0xaf ∷ 0xb1 ∷ 0xb3 ∷ 0xb5 ∷ 0xb7 ∷ 0xb9 ∷ 0xbd ∷ 0xc3
+    ∷ 0xc5 ∷ 0xc7 ∷ 0xcb ∷ 0xcf ∷ 0xd5 ∷ 0xd7 ∷ 0xd9 ∷ 0xdb ∷ 0xdd ∷ 0xdf ∷ 0xe3 ∷ 0xe5 ∷ 0xe7 ∷ 0xeb ∷ 0xef ∷ 0xf5
+    ∷ 0xf7 ∷ 0xf9 ∷ 0xfb ∷ 0xfd ∷ 0xff ∷ []
+
+even-told : tie.Need-returns-106
+unfolding keys even oneFor entryOf word thenOf usualsOf usualStates bits markNumber signOf sortIn castilian class isDigitCell ownCells lowerCells markOf dots
+even-told c =
+    let p : ℕ = c .before .args .point in
+    unlisted p (c .before .pre) (false-of (among keys p) (told-of (λ k. not (among keys k)) even p tt (c .match .keys106)))
+
+odd-told : tie.Need-returns-107
+unfolding keys odd oneFor entryOf word thenOf usualsOf usualStates bits markNumber signOf sortIn castilian class isDigitCell ownCells lowerCells markOf dots
+odd-told c =
+    let p : ℕ = c .before .args .point in
+    unlisted p (c .before .pre) (false-of (among keys p) (told-of (λ k. not (among keys k)) odd p tt (c .match .keys107)))
+
+all-told : T (below (λ k. among keys k || (among even k || among odd k)) 256)
+unfolding keys even odd
+all-told = tt
+
+untold : (c : ℕ) → c < 256 → among keys c ≡ false → among even c ≡ false → among odd c ≡ false → ⊥
+untold c l p q r = rw (p, q, r) at (at-below (λ k. among keys k || (among even k || among odd k)) 256 all-told c l)
+
+other : tie.Need-returns-108
+unfolding keys even odd
 other c =
-    none-of (λ k. leb 256 k) keys (c .before .args .point) tt (lt-leb 256 (c .before .args .point) (c .before .pre))
-    (rest-none Unit keys (c .before .args .point) (c .match .rest) .1)
+    let p : ℕ = c .before .args .point in
+    absurd
+    (untold p (c .before .pre) (rest-none Unit keys p (c .match .rest .0 .0) .1) (not-told even p (c .match .rest .0 .1))
+    (not-told odd p (c .match .rest .1)))
 
 pub low-spec : {M : Type 1} → statement M
-unfolding entryOf word thenOf usualsOf usualStates bits markNumber signOf sortIn castilian class isDigitCell ownCells lowerCells markOf dots
+unfolding oneFor entryOf word thenOf usualsOf usualStates bits markNumber signOf sortIn castilian class isDigitCell ownCells lowerCells markOf dots
 low-spec =
     tie.close
     (tie.spec
-    (λ c. sym (ap (entryOf castilian) (c .match .keys1)))
-    (λ c. sym (ap (entryOf castilian) (c .match .keys2)))
-    (λ c. sym (ap (entryOf castilian) (c .match .keys3)))
-    (λ c. sym (ap (entryOf castilian) (c .match .keys4)))
-    (λ c. sym (ap (entryOf castilian) (c .match .keys5)))
-    (λ c. sym (ap (entryOf castilian) (c .match .keys6)))
-    (λ c. sym (ap (entryOf castilian) (c .match .keys7)))
-    (λ c. sym (ap (entryOf castilian) (c .match .keys8)))
-    (λ c. sym (ap (entryOf castilian) (c .match .keys9)))
-    (λ c. sym (ap (entryOf castilian) (c .match .keys10)))
-    (λ c. sym (ap (entryOf castilian) (c .match .keys11)))
-    (λ c. sym (ap (entryOf castilian) (c .match .keys12)))
-    (λ c. sym (ap (entryOf castilian) (c .match .keys13)))
-    (λ c. sym (ap (entryOf castilian) (c .match .keys14)))
-    (λ c. sym (ap (entryOf castilian) (c .match .keys15)))
-    (λ c. sym (ap (entryOf castilian) (c .match .keys16)))
-    (λ c. sym (ap (entryOf castilian) (c .match .keys17)))
-    (λ c. sym (ap (entryOf castilian) (c .match .keys18)))
-    (λ c. sym (ap (entryOf castilian) (c .match .keys19)))
-    (λ c. sym (ap (entryOf castilian) (c .match .keys20)))
-    (λ c. sym (ap (entryOf castilian) (c .match .keys21)))
-    (λ c. sym (ap (entryOf castilian) (c .match .keys22)))
-    (λ c. sym (ap (entryOf castilian) (c .match .keys23)))
-    (λ c. sym (ap (entryOf castilian) (c .match .keys24)))
-    (λ c. sym (ap (entryOf castilian) (c .match .keys25)))
-    (λ c. sym (ap (entryOf castilian) (c .match .keys26)))
-    (λ c. sym (ap (entryOf castilian) (c .match .keys27)))
-    (λ c. sym (ap (entryOf castilian) (c .match .keys28)))
-    (λ c. sym (ap (entryOf castilian) (c .match .keys29)))
-    (λ c. sym (ap (entryOf castilian) (c .match .keys30)))
-    (λ c. sym (ap (entryOf castilian) (c .match .keys31)))
-    (λ c. sym (ap (entryOf castilian) (c .match .keys32)))
-    (λ c. sym (ap (entryOf castilian) (c .match .keys33)))
-    (λ c. sym (ap (entryOf castilian) (c .match .keys34)))
-    (λ c. sym (ap (entryOf castilian) (c .match .keys35)))
-    (λ c. sym (ap (entryOf castilian) (c .match .keys36)))
-    (λ c. sym (ap (entryOf castilian) (c .match .keys37)))
-    (λ c. sym (ap (entryOf castilian) (c .match .keys38)))
-    (λ c. sym (ap (entryOf castilian) (c .match .keys39)))
-    (λ c. sym (ap (entryOf castilian) (c .match .keys40)))
-    (λ c. sym (ap (entryOf castilian) (c .match .keys41)))
-    (λ c. sym (ap (entryOf castilian) (c .match .keys42)))
-    (λ c. sym (ap (entryOf castilian) (c .match .keys43)))
-    (λ c. sym (ap (entryOf castilian) (c .match .keys44)))
-    (λ c. sym (ap (entryOf castilian) (c .match .keys45)))
-    (λ c. sym (ap (entryOf castilian) (c .match .keys46)))
-    (λ c. sym (ap (entryOf castilian) (c .match .keys47)))
-    (λ c. sym (ap (entryOf castilian) (c .match .keys48)))
-    (λ c. sym (ap (entryOf castilian) (c .match .keys49)))
-    (λ c. sym (ap (entryOf castilian) (c .match .keys50)))
-    (λ c. sym (ap (entryOf castilian) (c .match .keys51)))
-    (λ c. sym (ap (entryOf castilian) (c .match .keys52)))
-    (λ c. sym (ap (entryOf castilian) (c .match .keys53)))
-    (λ c. sym (ap (entryOf castilian) (c .match .keys54)))
-    (λ c. sym (ap (entryOf castilian) (c .match .keys55)))
-    (λ c. sym (ap (entryOf castilian) (c .match .keys56)))
-    (λ c. sym (ap (entryOf castilian) (c .match .keys57)))
-    (λ c. sym (ap (entryOf castilian) (c .match .keys58)))
-    (λ c. sym (ap (entryOf castilian) (c .match .keys59)))
-    (λ c. sym (ap (entryOf castilian) (c .match .keys60)))
-    (λ c. sym (ap (entryOf castilian) (c .match .keys61)))
-    (λ c. sym (ap (entryOf castilian) (c .match .keys62)))
-    (λ c. sym (ap (entryOf castilian) (c .match .keys63)))
-    (λ c. sym (ap (entryOf castilian) (c .match .keys64)))
-    (λ c. sym (ap (entryOf castilian) (c .match .keys65)))
-    (λ c. sym (ap (entryOf castilian) (c .match .keys66)))
-    (λ c. sym (ap (entryOf castilian) (c .match .keys67)))
-    (λ c. sym (ap (entryOf castilian) (c .match .keys68)))
-    (λ c. sym (ap (entryOf castilian) (c .match .keys69)))
-    (λ c. sym (ap (entryOf castilian) (c .match .keys70)))
-    (λ c. sym (ap (entryOf castilian) (c .match .keys71)))
-    (λ c. sym (ap (entryOf castilian) (c .match .keys72)))
-    (λ c. sym (ap (entryOf castilian) (c .match .keys73)))
-    (λ c. sym (ap (entryOf castilian) (c .match .keys74)))
-    (λ c. sym (ap (entryOf castilian) (c .match .keys75)))
-    (λ c. sym (ap (entryOf castilian) (c .match .keys76)))
-    (λ c. sym (ap (entryOf castilian) (c .match .keys77)))
-    (λ c. sym (ap (entryOf castilian) (c .match .keys78)))
-    (λ c. sym (ap (entryOf castilian) (c .match .keys79)))
-    (λ c. sym (ap (entryOf castilian) (c .match .keys80)))
-    (λ c. sym (ap (entryOf castilian) (c .match .keys81)))
-    (λ c. sym (ap (entryOf castilian) (c .match .keys82)))
-    (λ c. sym (ap (entryOf castilian) (c .match .keys83)))
-    (λ c. sym (ap (entryOf castilian) (c .match .keys84)))
-    (λ c. sym (ap (entryOf castilian) (c .match .keys85)))
-    (λ c. sym (ap (entryOf castilian) (c .match .keys86)))
-    (λ c. sym (ap (entryOf castilian) (c .match .keys87)))
-    (λ c. sym (ap (entryOf castilian) (c .match .keys88)))
-    (λ c. sym (ap (entryOf castilian) (c .match .keys89)))
-    (λ c. sym (ap (entryOf castilian) (c .match .keys90)))
-    (λ c. sym (ap (entryOf castilian) (c .match .keys91)))
-    (λ c. sym (ap (entryOf castilian) (c .match .keys92)))
-    (λ c. sym (ap (entryOf castilian) (c .match .keys93)))
-    (λ c. sym (ap (entryOf castilian) (c .match .keys94)))
-    (λ c. sym (ap (entryOf castilian) (c .match .keys95)))
-    (λ c. sym (ap (entryOf castilian) (c .match .keys96)))
-    (λ c. sym (ap (entryOf castilian) (c .match .keys97)))
-    (λ c. sym (ap (entryOf castilian) (c .match .keys98)))
-    (λ c. sym (ap (entryOf castilian) (c .match .keys99)))
-    (λ c. sym (ap (entryOf castilian) (c .match .keys100)))
-    (λ c. sym (ap (entryOf castilian) (c .match .keys101)))
-    (λ c. sym (ap (entryOf castilian) (c .match .keys102)))
-    (λ c. sym (ap (entryOf castilian) (c .match .keys103)))
-    (λ c. sym (ap (entryOf castilian) (c .match .keys104)))
-    (λ c. sym (ap (entryOf castilian) (c .match .keys105)))
+    (λ c. sym (ap (λ (k : ℕ). entryOf castilian (oneFor k)) (c .match .keys1)))
+    (λ c. sym (ap (λ (k : ℕ). entryOf castilian (oneFor k)) (c .match .keys2)))
+    (λ c. sym (ap (λ (k : ℕ). entryOf castilian (oneFor k)) (c .match .keys3)))
+    (λ c. sym (ap (λ (k : ℕ). entryOf castilian (oneFor k)) (c .match .keys4)))
+    (λ c. sym (ap (λ (k : ℕ). entryOf castilian (oneFor k)) (c .match .keys5)))
+    (λ c. sym (ap (λ (k : ℕ). entryOf castilian (oneFor k)) (c .match .keys6)))
+    (λ c. sym (ap (λ (k : ℕ). entryOf castilian (oneFor k)) (c .match .keys7)))
+    (λ c. sym (ap (λ (k : ℕ). entryOf castilian (oneFor k)) (c .match .keys8)))
+    (λ c. sym (ap (λ (k : ℕ). entryOf castilian (oneFor k)) (c .match .keys9)))
+    (λ c. sym (ap (λ (k : ℕ). entryOf castilian (oneFor k)) (c .match .keys10)))
+    (λ c. sym (ap (λ (k : ℕ). entryOf castilian (oneFor k)) (c .match .keys11)))
+    (λ c. sym (ap (λ (k : ℕ). entryOf castilian (oneFor k)) (c .match .keys12)))
+    (λ c. sym (ap (λ (k : ℕ). entryOf castilian (oneFor k)) (c .match .keys13)))
+    (λ c. sym (ap (λ (k : ℕ). entryOf castilian (oneFor k)) (c .match .keys14)))
+    (λ c. sym (ap (λ (k : ℕ). entryOf castilian (oneFor k)) (c .match .keys15)))
+    (λ c. sym (ap (λ (k : ℕ). entryOf castilian (oneFor k)) (c .match .keys16)))
+    (λ c. sym (ap (λ (k : ℕ). entryOf castilian (oneFor k)) (c .match .keys17)))
+    (λ c. sym (ap (λ (k : ℕ). entryOf castilian (oneFor k)) (c .match .keys18)))
+    (λ c. sym (ap (λ (k : ℕ). entryOf castilian (oneFor k)) (c .match .keys19)))
+    (λ c. sym (ap (λ (k : ℕ). entryOf castilian (oneFor k)) (c .match .keys20)))
+    (λ c. sym (ap (λ (k : ℕ). entryOf castilian (oneFor k)) (c .match .keys21)))
+    (λ c. sym (ap (λ (k : ℕ). entryOf castilian (oneFor k)) (c .match .keys22)))
+    (λ c. sym (ap (λ (k : ℕ). entryOf castilian (oneFor k)) (c .match .keys23)))
+    (λ c. sym (ap (λ (k : ℕ). entryOf castilian (oneFor k)) (c .match .keys24)))
+    (λ c. sym (ap (λ (k : ℕ). entryOf castilian (oneFor k)) (c .match .keys25)))
+    (λ c. sym (ap (λ (k : ℕ). entryOf castilian (oneFor k)) (c .match .keys26)))
+    (λ c. sym (ap (λ (k : ℕ). entryOf castilian (oneFor k)) (c .match .keys27)))
+    (λ c. sym (ap (λ (k : ℕ). entryOf castilian (oneFor k)) (c .match .keys28)))
+    (λ c. sym (ap (λ (k : ℕ). entryOf castilian (oneFor k)) (c .match .keys29)))
+    (λ c. sym (ap (λ (k : ℕ). entryOf castilian (oneFor k)) (c .match .keys30)))
+    (λ c. sym (ap (λ (k : ℕ). entryOf castilian (oneFor k)) (c .match .keys31)))
+    (λ c. sym (ap (λ (k : ℕ). entryOf castilian (oneFor k)) (c .match .keys32)))
+    (λ c. sym (ap (λ (k : ℕ). entryOf castilian (oneFor k)) (c .match .keys33)))
+    (λ c. sym (ap (λ (k : ℕ). entryOf castilian (oneFor k)) (c .match .keys34)))
+    (λ c. sym (ap (λ (k : ℕ). entryOf castilian (oneFor k)) (c .match .keys35)))
+    (λ c. sym (ap (λ (k : ℕ). entryOf castilian (oneFor k)) (c .match .keys36)))
+    (λ c. sym (ap (λ (k : ℕ). entryOf castilian (oneFor k)) (c .match .keys37)))
+    (λ c. sym (ap (λ (k : ℕ). entryOf castilian (oneFor k)) (c .match .keys38)))
+    (λ c. sym (ap (λ (k : ℕ). entryOf castilian (oneFor k)) (c .match .keys39)))
+    (λ c. sym (ap (λ (k : ℕ). entryOf castilian (oneFor k)) (c .match .keys40)))
+    (λ c. sym (ap (λ (k : ℕ). entryOf castilian (oneFor k)) (c .match .keys41)))
+    (λ c. sym (ap (λ (k : ℕ). entryOf castilian (oneFor k)) (c .match .keys42)))
+    (λ c. sym (ap (λ (k : ℕ). entryOf castilian (oneFor k)) (c .match .keys43)))
+    (λ c. sym (ap (λ (k : ℕ). entryOf castilian (oneFor k)) (c .match .keys44)))
+    (λ c. sym (ap (λ (k : ℕ). entryOf castilian (oneFor k)) (c .match .keys45)))
+    (λ c. sym (ap (λ (k : ℕ). entryOf castilian (oneFor k)) (c .match .keys46)))
+    (λ c. sym (ap (λ (k : ℕ). entryOf castilian (oneFor k)) (c .match .keys47)))
+    (λ c. sym (ap (λ (k : ℕ). entryOf castilian (oneFor k)) (c .match .keys48)))
+    (λ c. sym (ap (λ (k : ℕ). entryOf castilian (oneFor k)) (c .match .keys49)))
+    (λ c. sym (ap (λ (k : ℕ). entryOf castilian (oneFor k)) (c .match .keys50)))
+    (λ c. sym (ap (λ (k : ℕ). entryOf castilian (oneFor k)) (c .match .keys51)))
+    (λ c. sym (ap (λ (k : ℕ). entryOf castilian (oneFor k)) (c .match .keys52)))
+    (λ c. sym (ap (λ (k : ℕ). entryOf castilian (oneFor k)) (c .match .keys53)))
+    (λ c. sym (ap (λ (k : ℕ). entryOf castilian (oneFor k)) (c .match .keys54)))
+    (λ c. sym (ap (λ (k : ℕ). entryOf castilian (oneFor k)) (c .match .keys55)))
+    (λ c. sym (ap (λ (k : ℕ). entryOf castilian (oneFor k)) (c .match .keys56)))
+    (λ c. sym (ap (λ (k : ℕ). entryOf castilian (oneFor k)) (c .match .keys57)))
+    (λ c. sym (ap (λ (k : ℕ). entryOf castilian (oneFor k)) (c .match .keys58)))
+    (λ c. sym (ap (λ (k : ℕ). entryOf castilian (oneFor k)) (c .match .keys59)))
+    (λ c. sym (ap (λ (k : ℕ). entryOf castilian (oneFor k)) (c .match .keys60)))
+    (λ c. sym (ap (λ (k : ℕ). entryOf castilian (oneFor k)) (c .match .keys61)))
+    (λ c. sym (ap (λ (k : ℕ). entryOf castilian (oneFor k)) (c .match .keys62)))
+    (λ c. sym (ap (λ (k : ℕ). entryOf castilian (oneFor k)) (c .match .keys63)))
+    (λ c. sym (ap (λ (k : ℕ). entryOf castilian (oneFor k)) (c .match .keys64)))
+    (λ c. sym (ap (λ (k : ℕ). entryOf castilian (oneFor k)) (c .match .keys65)))
+    (λ c. sym (ap (λ (k : ℕ). entryOf castilian (oneFor k)) (c .match .keys66)))
+    (λ c. sym (ap (λ (k : ℕ). entryOf castilian (oneFor k)) (c .match .keys67)))
+    (λ c. sym (ap (λ (k : ℕ). entryOf castilian (oneFor k)) (c .match .keys68)))
+    (λ c. sym (ap (λ (k : ℕ). entryOf castilian (oneFor k)) (c .match .keys69)))
+    (λ c. sym (ap (λ (k : ℕ). entryOf castilian (oneFor k)) (c .match .keys70)))
+    (λ c. sym (ap (λ (k : ℕ). entryOf castilian (oneFor k)) (c .match .keys71)))
+    (λ c. sym (ap (λ (k : ℕ). entryOf castilian (oneFor k)) (c .match .keys72)))
+    (λ c. sym (ap (λ (k : ℕ). entryOf castilian (oneFor k)) (c .match .keys73)))
+    (λ c. sym (ap (λ (k : ℕ). entryOf castilian (oneFor k)) (c .match .keys74)))
+    (λ c. sym (ap (λ (k : ℕ). entryOf castilian (oneFor k)) (c .match .keys75)))
+    (λ c. sym (ap (λ (k : ℕ). entryOf castilian (oneFor k)) (c .match .keys76)))
+    (λ c. sym (ap (λ (k : ℕ). entryOf castilian (oneFor k)) (c .match .keys77)))
+    (λ c. sym (ap (λ (k : ℕ). entryOf castilian (oneFor k)) (c .match .keys78)))
+    (λ c. sym (ap (λ (k : ℕ). entryOf castilian (oneFor k)) (c .match .keys79)))
+    (λ c. sym (ap (λ (k : ℕ). entryOf castilian (oneFor k)) (c .match .keys80)))
+    (λ c. sym (ap (λ (k : ℕ). entryOf castilian (oneFor k)) (c .match .keys81)))
+    (λ c. sym (ap (λ (k : ℕ). entryOf castilian (oneFor k)) (c .match .keys82)))
+    (λ c. sym (ap (λ (k : ℕ). entryOf castilian (oneFor k)) (c .match .keys83)))
+    (λ c. sym (ap (λ (k : ℕ). entryOf castilian (oneFor k)) (c .match .keys84)))
+    (λ c. sym (ap (λ (k : ℕ). entryOf castilian (oneFor k)) (c .match .keys85)))
+    (λ c. sym (ap (λ (k : ℕ). entryOf castilian (oneFor k)) (c .match .keys86)))
+    (λ c. sym (ap (λ (k : ℕ). entryOf castilian (oneFor k)) (c .match .keys87)))
+    (λ c. sym (ap (λ (k : ℕ). entryOf castilian (oneFor k)) (c .match .keys88)))
+    (λ c. sym (ap (λ (k : ℕ). entryOf castilian (oneFor k)) (c .match .keys89)))
+    (λ c. sym (ap (λ (k : ℕ). entryOf castilian (oneFor k)) (c .match .keys90)))
+    (λ c. sym (ap (λ (k : ℕ). entryOf castilian (oneFor k)) (c .match .keys91)))
+    (λ c. sym (ap (λ (k : ℕ). entryOf castilian (oneFor k)) (c .match .keys92)))
+    (λ c. sym (ap (λ (k : ℕ). entryOf castilian (oneFor k)) (c .match .keys93)))
+    (λ c. sym (ap (λ (k : ℕ). entryOf castilian (oneFor k)) (c .match .keys94)))
+    (λ c. sym (ap (λ (k : ℕ). entryOf castilian (oneFor k)) (c .match .keys95)))
+    (λ c. sym (ap (λ (k : ℕ). entryOf castilian (oneFor k)) (c .match .keys96)))
+    (λ c. sym (ap (λ (k : ℕ). entryOf castilian (oneFor k)) (c .match .keys97)))
+    (λ c. sym (ap (λ (k : ℕ). entryOf castilian (oneFor k)) (c .match .keys98)))
+    (λ c. sym (ap (λ (k : ℕ). entryOf castilian (oneFor k)) (c .match .keys99)))
+    (λ c. sym (ap (λ (k : ℕ). entryOf castilian (oneFor k)) (c .match .keys100)))
+    (λ c. sym (ap (λ (k : ℕ). entryOf castilian (oneFor k)) (c .match .keys101)))
+    (λ c. sym (ap (λ (k : ℕ). entryOf castilian (oneFor k)) (c .match .keys102)))
+    (λ c. sym (ap (λ (k : ℕ). entryOf castilian (oneFor k)) (c .match .keys103)))
+    (λ c. sym (ap (λ (k : ℕ). entryOf castilian (oneFor k)) (c .match .keys104)))
+    (λ c. sym (ap (λ (k : ℕ). entryOf castilian (oneFor k)) (c .match .keys105)))
+    even-told
+    odd-told
     other)
