@@ -1,7 +1,8 @@
 //! The proved library against plain Rust by the same rules, on one core, in one run: transcribing, in nanoseconds for each code point of
-//! print; reading, in nanoseconds for each cell; and steps.
+//! print; reading, in nanoseconds for each cell; and steps. Where liblouis is installed, it is timed beside the library.
 mod cases;
 mod duel;
+mod liblouis;
 mod prose;
 mod reading;
 mod report;
@@ -25,6 +26,8 @@ fn main() {
     let reading = reading::run();
     println!();
     stepping::run();
+    println!();
+    liblouis::run();
     println!();
     report::print(&[transcribing, reading].into_iter().flatten().collect::<Vec<_>>());
 }
