@@ -35,7 +35,7 @@ struct Transcriber<'a, R> {
     at: usize,
     /// Normalising added so many code points to that.
     added: usize,
-    /// The bits of the pair kinds that are open.
+    /// The bits of the pair kinds that are open: 0 where no fault is looked for.
     open: u8,
     /// Never more than three cells for each code point up to the one at `at`.
     row: R,
@@ -63,10 +63,15 @@ impl<R: Row> Transcriber<'_, R> {
     /// The whole print.
     #[inline(always)]
     fn signs(&mut self) -> Result<(), Refusal> {
-        while let Some(&point) = self.print.get(self.at) {
-            if has(&ALONE, point) {
+        while let Some(&first) = self.print.get(self.at) {
+            let mut point = first;
+            if has(&ALONE, first) {
                 self.run(&ALONE);
-            } else if has(&CAPITALS, point) {
+                // Not one of those: what it is, is asked at once.
+                let Some(&next) = self.print.get(self.at) else { break };
+                point = next;
+            }
+            if has(&CAPITALS, point) {
                 self.capitals();
             } else if is_digit(point) {
                 self.number()?;
@@ -87,7 +92,7 @@ impl<R: Row> Transcriber<'_, R> {
         if !R::SETTLED {
             self.may_stand(point, sign)?;
         }
-        self.row.sign(&sign);
+        self.row.sign(sign);
         self.at += 1;
         self.added += usize::from(sign.added);
         Ok(())
@@ -95,7 +100,7 @@ impl<R: Row> Transcriber<'_, R> {
 
     /// Whether this sign of a code point may stand here; the pairs that are open behind it.
     #[inline(always)]
-    fn may_stand(&mut self, point: u32, sign: Sign) -> Result<(), Refusal> {
+    fn may_stand(&mut self, point: u32, sign: &Sign) -> Result<(), Refusal> {
         if sign.count == 0 {
             let of_a_form = is_ordinal_mark(point) || point == BAR;
             return Err(if of_a_form { Refusal::OutsideForm(self.place()) } else { Refusal::NoSign(self.place()) });
