@@ -1,5 +1,5 @@
-//! liblouis beside the library, on prose, where it is installed. By its rules print has other cells, so that they are not asserted; only that it takes
-//! all of the print. It is looked for when the bench runs: nothing of it is needed to build.
+//! liblouis beside the library, on prose, where it is installed. By its rules print has other cells, so that they are not asserted; only
+//! that it takes all of the print. It is looked for when the bench runs: nothing of it is needed to build.
 use crate::cases::{of_prose, Data};
 use crate::timing::{Times, ROUNDS};
 use omdurgash::{transcribe, LONGEST_ROW};

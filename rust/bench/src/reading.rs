@@ -1,5 +1,5 @@
-//! Reading: nanoseconds for each cell of a row. `plain::read` goes about it as the library does: one pass into a text of its own, and a copy.
-//! `plain::read_lent` makes two passes and copies nothing.
+//! Reading: nanoseconds for each cell of a row. `plain::read` goes about it as the library does: one pass into a text of its own, and a
+//! copy. `plain::read_lent` makes two passes and copies nothing.
 use crate::cases::{lines, normal, LONG_LINES, SHORT_LINES};
 use crate::duel::{self, Duel, Ratio, Rivals, Words};
 use crate::prose::{prose, Random};

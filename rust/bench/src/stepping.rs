@@ -1,5 +1,5 @@
-//! Steps: nanoseconds for a step over the first sign of a row and over the last, beside one reading of the row. A step works out from the whole row
-//! what its sign is, so it is not to cost more than a reading does, by much.
+//! Steps: nanoseconds for a step over the first sign of a row and over the last, beside one reading of the row. A step works out from the
+//! whole row what its sign is, so it is not to cost more than a reading does, by much.
 use crate::cases::{lines, LONG_LINES, SHORT_LINES};
 use crate::prose::{prose, Random};
 use crate::text::Text;

@@ -2,8 +2,8 @@
 //! nothing that it is built on. It is written from paper 01 alone, and for speed.
 //!
 //! There are two transcribers by the same rules (`transcriber`): [`transcribe`] makes one pass over print into a row of its own, and copies
-//! that; [`transcribe_lent`] makes two, and copies nothing: one counts, and one writes to the lent row. In the same way there are two readers
-//! (`reader`), [`read`] and [`read_lent`]. [`step`] reads the row as they do and gives one sign of it.
+//! that; [`transcribe_lent`] makes two, and copies nothing: one counts, and one writes to the lent row. In the same way there are two
+//! readers (`reader`), [`read`] and [`read_lent`]. [`step`] reads the row as they do and gives one sign of it.
 //!
 //! A new sign of one cell is an entry of `PUNCTUATION`; of two cells, an entry of the table for its first cell, and of `SIGNS`; a new pair
 //! kind, an entry of `OPENERS` and of `CLOSERS`, and of `PAIRS`. If its code point is in no table of signs, it is one of `ELSEWHERE` too.

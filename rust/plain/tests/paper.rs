@@ -81,7 +81,8 @@ fn either_side_of_each_length() {
     assert_eq!(step_at(0, &vec![0; 12_289]), Err((1, 12_289)));
 }
 
-/// The row of its own that `transcribe` has is of one of three lengths, by that of print; `transcribe_lent` writes no further than the row goes.
+/// The row of its own that `transcribe` has is of one of three lengths, by that of print; `transcribe_lent` writes no further than the row
+/// goes.
 #[test]
 fn either_side_of_each_own_row() {
     for len in [79, 80, 81, 639, 640, 641, 4_095, 4_096] {
