@@ -1,8 +1,9 @@
-//! Steps: nanoseconds for a step over the first sign of a row and over the last, beside one reading of the row. A step works out from the whole row
-//! what its sign is, so it is not to cost more than a reading does, by much.
+//! Steps: nanoseconds for a step over the first sign of a row and over the last, beside one reading of the row. A step works out from the
+//! whole row what its sign is, so it is not to cost more than a reading does, by much.
+use crate::cases::{lines, LONG_LINES, SHORT_LINES};
 use crate::prose::{prose, Random};
 use crate::text::Text;
-use crate::timing::{best, lines, rounds, LONG_LINES, PASSES, SHORT_LINES};
+use crate::timing::{Times, VISITS};
 use omdurgash::{read, step, LONGEST_TEXT};
 use std::hint::black_box;
 
@@ -13,6 +14,9 @@ struct Line {
     last: usize,
 }
 
+/// What is timed.
+const CALLS: [&str; 3] = ["reading", "first sign", "last sign"];
+
 /// The prose ends with a small letter behind a blank: a sign of one cell.
 fn line(mut text: Text) -> Line {
     text.sign(' ');
@@ -20,27 +24,30 @@ fn line(mut text: Text) -> Line {
     Line { last: text.cells.len() - 1, row: text.cells, text: text.print }
 }
 
-/// One reading, a step at the first place, a step at the last sign.
+/// One of the calls, with its answer asserted.
+fn call(which: usize, line: &Line, text: &mut [u32]) {
+    let row = black_box(&line.row);
+    let sign = |place| step(row, black_box(place)).expect("the row is accepted");
+    match which {
+        0 => assert!(read(row, black_box(text)) == Ok(line.text.len()), "another answer"),
+        1 => assert!(sign(0).points() == &line.text[..1], "another first sign"),
+        _ => assert!(sign(line.last).next() == line.row.len(), "another last sign"),
+    }
+}
+
+/// The median time of each call.
 fn time(lines: &[Line]) -> [f64; 3] {
     let text = &mut vec![0; LONGEST_TEXT][..];
     for line in lines {
-        let first = step(&line.row, 0).expect("the row is accepted");
-        assert_eq!(first.points(), &line.text[..1]);
         let last = step(&line.row, line.last).expect("the row is accepted");
         assert_eq!((last.points(), last.next()), (&[u32::from('a')][..], line.row.len()));
+        call(0, line, text);
+        assert!(text.starts_with(&line.text), "another text");
     }
-    let rounds = rounds(lines.iter().map(|line| line.row.len()).sum());
-    [
-        best(lines, rounds, |line| assert!(read(black_box(&line.row), black_box(text)) == Ok(line.text.len()), "another answer")),
-        best(lines, rounds, |line| {
-            let sign = step(black_box(&line.row), black_box(0)).expect("the row is accepted");
-            assert!(sign.points() == &line.text[..1], "another sign");
-        }),
-        best(lines, rounds, |line| {
-            let sign = step(black_box(&line.row), black_box(line.last)).expect("the row is accepted");
-            assert!(sign.next() == line.row.len(), "another sign");
-        }),
-    ]
+    let mut run = |which, passes| (0..passes).for_each(|_| lines.iter().for_each(|line| call(which, line, text)));
+    let mut times = Times::new(CALLS.len(), &mut run);
+    (0..VISITS).for_each(|_| times.visit(&mut run, |_, ()| ()));
+    [0, 1, 2].map(|which| times.median(which) / lines.len() as f64)
 }
 
 /// Times the steps and prints the table.
@@ -48,13 +55,9 @@ pub fn run() {
     let random = &mut Random::new();
     let short = lines(SHORT_LINES, || line(prose(random, 38)));
     let long = lines(LONG_LINES, || line(prose(random, 3998)));
-    println!("{:<34}{:>16}{:>16}{:>16}", "one call, in ns", "reading", "first sign", "last sign");
+    println!("{:<36}{:>16}{:>16}{:>16}", "one call of the library, in ns", CALLS[0], CALLS[1], CALLS[2]);
     for (name, lines) in [("prose, texts of 40", short), ("prose, texts of 4,000", long)] {
-        let mut best = [f64::INFINITY; 3];
-        for _ in 0..PASSES {
-            let times = time(&lines);
-            best = [0, 1, 2].map(|i| times[i].min(best[i]));
-        }
-        println!("{name:<34}{:>16.1}{:>16.1}{:>16.1}", best[0], best[1], best[2]);
+        let [reading, first, last] = time(&lines);
+        println!("{name:<36}{reading:>16.1}{first:>16.1}{last:>16.1}");
     }
 }

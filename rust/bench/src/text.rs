@@ -1,6 +1,6 @@
 //! Print with the cells that it must give, put together piece by piece. Only what the bench needs: small letters, words with a capital in
-//! front, numbers, and signs of one cell. It is no transcriber: whoever calls says what each piece is. Where the print is normal, it is the text
-//! that its cells must give.
+//! front, numbers, and signs of one cell. It is no transcriber: whoever calls says what each piece is. Where the print is normal, it is the
+//! text that its cells must give.
 
 /// Print and its cells.
 #[derive(Clone, Default)]

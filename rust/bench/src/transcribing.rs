@@ -1,118 +1,75 @@
-//! Transcribing: nanoseconds for each code point of print. A new print is a line of `cases`.
+//! Transcribing: nanoseconds for each code point of print. `plain::transcribe_lent` goes about it as the library does: to the lent row, and
+//! nowhere else. `plain::transcribe` has a row of its own and copies that.
+use crate::cases::{lines, normal, LONG_LINES, SHORT_LINES};
+use crate::duel::{self, Duel, Ratio, Rivals, Words};
 use crate::prose::{curly_quotes_then_prose, prose, prose_then_curly_quotes, Random};
-use crate::text::{capitals_then_small, Text};
-use crate::timing::{best, lines, rounds, LONG_LINES, PASSES, SHORT_LINES};
-use omdurgash::{transcribe, Refusal, LONGEST_ROW};
-use std::hint::black_box;
+use crate::text::Text;
+use omdurgash::LONGEST_ROW;
 
-/// What a row holds before a call: it is no cell.
+type Line = duel::Line<u32, u8>;
+type Case = duel::Case<u32, u8>;
+
+const WORDS: Words =
+    Words { name: "transcribe", doing: "Transcribing", input: "print", element: "code point", elements: "code points", written: "cells" };
+
+const RIVALS: Rivals<u32, u8> = [
+    ("library", |print, row| omdurgash::transcribe(print, row).map_err(|refusal| (refusal.number(), refusal.second()))),
+    ("plain, lent", |print, row| plain::transcribe_lent(print, row).map_err(plain::Refusal::shown)),
+    ("plain, copying", |print, row| plain::transcribe(print, row).map_err(plain::Refusal::shown)),
+];
+
+/// It is no cell.
 const UNTOUCHED: u8 = 0xA5;
 
-/// One print, and what must come of it.
-struct Line {
-    print: Vec<u32>,
-    answer: Result<usize, Refusal>,
-    /// None for print that is refused.
-    cells: Vec<u8>,
-}
-
-/// Lines of one length that are timed together.
-struct Case {
-    name: &'static str,
-    lines: Vec<Line>,
+/// Times every case and prints the table.
+pub fn run() -> Vec<Ratio> {
+    Duel { words: WORDS, rivals: RIVALS, cases: cases(), untouched: UNTOUCHED, room: LONGEST_ROW }.run()
 }
 
 fn accepted(text: Text) -> Line {
-    Line { answer: Ok(text.cells.len()), print: text.print, cells: text.cells }
+    Line::accepted(text.print, text.cells)
 }
 
 /// The text with a code point behind it that has no sign.
 fn without_sign_at_end(text: Text) -> Line {
-    let mut print = text.print;
-    let refusal = Refusal::NoSign { place: print.len() };
-    print.push(u32::from('@'));
-    Line { print, answer: Err(refusal), cells: Vec::new() }
+    let place = text.len();
+    Line::refused([text.print, vec![u32::from('@')]].concat(), 2, place)
 }
 
 fn cases() -> Vec<Case> {
+    let of_data =
+        normal().into_iter().map(|data| Case { name: data.name, title: data.title, lines: data.texts.into_iter().map(accepted).collect() });
+    of_data.chain(not_normal()).chain(refused()).collect()
+}
+
+/// Print that is to be normalised.
+fn not_normal() -> Vec<Case> {
     let random = &mut Random::new();
-    let one = |text| vec![accepted(text)];
-    let again = |times, print, before, cells| one(Text::repeated(times, print, before, cells));
-    let case = |name, lines| Case { name, lines };
+    let again = |times, print, cells| vec![accepted(Text::repeated(times, print, "", cells))];
+    let case = |name, title, lines| Case { name, title, lines };
     vec![
-        case("prose, lines of 40", lines(SHORT_LINES, || accepted(prose(random, 40)))),
-        case("prose, lines of 4,000", lines(LONG_LINES, || accepted(prose(random, 4000)))),
-        case("“ ” in front, lines of 40", lines(SHORT_LINES, || accepted(curly_quotes_then_prose(random, 40)))),
-        case("“ ” in front, lines of 4,000", lines(LONG_LINES, || accepted(curly_quotes_then_prose(random, 4000)))),
-        case("“ ” at the end, lines of 40", lines(SHORT_LINES, || accepted(prose_then_curly_quotes(random, 40)))),
-        case("“ ” at the end, lines of 4,000", lines(LONG_LINES, || accepted(prose_then_curly_quotes(random, 4000)))),
-        case("prose, no sign at the end", lines(LONG_LINES, || without_sign_at_end(prose(random, 3999)))),
-        case("small letters", again(256, "abcdeñopqrstuáéü", "", "⠁⠃⠉⠙⠑⠻⠕⠏⠟⠗⠎⠞⠥⠷⠮⠳")),
-        case("capitals, one run", again(256, "ABCDEÑOPQRSTUÁÉÜ", "⠨⠨", "⠁⠃⠉⠙⠑⠻⠕⠏⠟⠗⠎⠞⠥⠷⠮⠳")),
-        case("capitals, the last letter small", one(capitals_then_small(4096))),
-        case("capitals apart: A A A", again(2048, "A ", "", "⠨⠁⠀")),
-        case("full stops", again(4096, ".", "", "⠄")),
-        case("digits, one number", again(512, "12345670", "⠼", "⠁⠃⠉⠙⠑⠋⠛⠚")),
-        case("digits and points: 1.1.1.", again(2048, "1.", "⠼", "⠁⠄")),
-        case("fractions: 3⁄4 3⁄4", again(1024, "3⁄4 ", "", "⠼⠒⠙⠀")),
-        case("fractions: 12⁄16 12⁄16", again(682, "12⁄16 ", "", "⠼⠂⠆⠁⠋⠀")),
-        case("ordinals: 3.º 3.º", again(1024, "3.º ", "", "⠼⠒⠕⠀")),
-        case("pairs: ¿?¿?", again(2048, "¿?", "", "⠢⠢")),
-        case("crossing pairs: ¿¡«‘?!»’", again(512, "¿¡«‘?!»’", "", "⠢⠖⠦⠠⠦⠢⠖⠦⠠⠦")),
-        case("three cells each: ‰", again(4096, "‰", "", "⠸⠴⠴")),
-        case("empty", one(Text::default())),
+        case("curly-front-40", "“ ” in front, lines of 40", lines(SHORT_LINES, || accepted(curly_quotes_then_prose(random, 40)))),
+        case("curly-front-4000", "“ ” in front, lines of 4,000", lines(LONG_LINES, || accepted(curly_quotes_then_prose(random, 4000)))),
+        case("curly-end-40", "“ ” at the end, lines of 40", lines(SHORT_LINES, || accepted(prose_then_curly_quotes(random, 40)))),
+        case("curly-end-4000", "“ ” at the end, lines of 4,000", lines(LONG_LINES, || accepted(prose_then_curly_quotes(random, 4000)))),
+        case("curly-40", "40: “a” “a”", again(10, "“a” ", "⠦⠁⠦⠀")),
+        case("curly", "“a” “a”", again(1024, "“a” ", "⠦⠁⠦⠀")),
+        case("ellipses", "…", again(1365, "…", "⠄⠄⠄")),
+        case("ordinals-without-stop", "ordinals without a stop: 3º 3º", again(1024, "3º ", "⠼⠒⠕⠀")),
     ]
 }
 
-/// The answer, every cell, and every byte after the cells.
-fn check(name: &str, line: &Line, row: &mut [u8]) {
-    row.fill(UNTOUCHED);
-    assert_eq!(transcribe(&line.print, row), line.answer, "{name}");
-    let (cells, rest) = row.split_at(line.cells.len());
-    assert!(cells == line.cells, "{name}: other cells");
-    assert!(rest.iter().all(|&byte| byte == UNTOUCHED), "{name}: the row is written to behind its cells");
-}
-
-/// The best time of a call, in nanoseconds, over the lines of a case.
-fn time(case: &Case) -> f64 {
-    let row = &mut vec![UNTOUCHED; LONGEST_ROW][..];
-    case.lines.iter().for_each(|line| check(case.name, line, row));
-
-    let points = case.lines.iter().map(|line| line.print.len()).sum();
-    let best = best(&case.lines, rounds(points), |line| {
-        assert!(transcribe(black_box(&line.print), black_box(row)) == line.answer, "{}: another answer", case.name);
-    });
-    // What the timed calls left: the cells of the last line that was accepted.
-    let last = case.lines.last().expect("a case has lines");
-    assert!(row.starts_with(&last.cells), "{}: other cells", case.name);
-    best
-}
-
-/// What the table says of the answers: the cells of a line, on the average, or the refusal.
-fn answers(case: &Case) -> String {
-    match case.lines[0].answer {
-        Ok(_) => {
-            let cells: usize = case.lines.iter().map(|line| line.cells.len()).sum();
-            format!("{:.1} cells", cells as f64 / case.lines.len() as f64)
-        }
-        Err(refusal) => format!("no {} {}", refusal.number(), refusal.second()),
-    }
-}
-
-/// Times every case and prints the table.
-pub fn run() {
-    let cases = cases();
-    let mut best = vec![f64::INFINITY; cases.len()];
-    for _ in 0..PASSES {
-        for (case, best) in cases.iter().zip(&mut best) {
-            *best = best.min(time(case));
-        }
-    }
-    println!("{:<32}{:>13}{:>16}{:>12}{:>16}", "print", "code points", "answer", "ns a call", "ns a code point");
-    for (case, call) in cases.iter().zip(best) {
-        let length = case.lines[0].print.len();
-        assert!(case.lines.iter().all(|line| line.print.len() == length), "{}: lines of one length", case.name);
-        let point = if length == 0 { "-".to_string() } else { format!("{:.2}", call / length as f64) };
-        println!("{:<32}{:>13}{:>16}{:>12.1}{:>16}", case.name, length, answers(case), call, point);
-    }
+/// Print that is refused: where it ends, or for its length.
+fn refused() -> Vec<Case> {
+    let random = &mut Random::new();
+    let print = |times, print| Text::repeated(times, print, "", "").print;
+    let refused = |print, number, second| vec![Line::refused(print, number, second)];
+    let case = |name, title, lines| Case { name, title, lines };
+    vec![
+        case("no-sign-at-end-40", "40: prose, no sign at the end", lines(SHORT_LINES, || without_sign_at_end(prose(random, 39)))),
+        case("no-sign-at-end", "prose, no sign at the end", lines(LONG_LINES, || without_sign_at_end(prose(random, 3999)))),
+        case("open-at-end", "pair open at the end: ¿aaa", refused([print(1, "¿"), print(4095, "a")].concat(), 3, 4096)),
+        case("too-long", "blanks, text too long", refused(print(4097, " "), 1, 4097)),
+        case("ellipses-too-long", "…, text too long", refused(print(1366, "…"), 1, 4098)),
+    ]
 }

@@ -19,9 +19,10 @@ pub struct Sign {
 }
 
 /// From print to a row.
-pub const TRANSCRIBERS: [(&str, Function<u32, u8>); 2] = [
+pub const TRANSCRIBERS: [(&str, Function<u32, u8>); 3] = [
     ("library", |print, row| omdurgash::transcribe(print, row).map_err(no)),
-    ("plain", |print, row| plain::transcribe(print, row).map_err(plain::Refusal::shown)),
+    ("plain, lent", |print, row| plain::transcribe_lent(print, row).map_err(plain::Refusal::shown)),
+    ("plain, copying", |print, row| plain::transcribe(print, row).map_err(plain::Refusal::shown)),
 ];
 
 /// From a row to its text.

@@ -1,9 +1,9 @@
 //! Spanish print to rows of six-dot braille cells, and back, in plain Rust: the rival and the cross-check of the exported library, and
 //! nothing that it is built on. It is written from paper 01 alone, and for speed.
 //!
-//! [`transcribe`] makes one pass over print (`transcriber`) into a row of its own, and copies that. There are two readers by the same rules
-//! (`reader`): [`read`] makes one pass over the row into a text of its own and copies it; [`read_lent`] makes two, and copies nothing, as
-//! the library does. [`step`] reads the row as they do and gives one sign of it.
+//! There are two transcribers by the same rules (`transcriber`): [`transcribe`] makes one pass over print into a row of its own, and copies
+//! that; [`transcribe_lent`] makes two, and copies nothing: one counts, and one writes to the lent row. In the same way there are two
+//! readers (`reader`), [`read`] and [`read_lent`]. [`step`] reads the row as they do and gives one sign of it.
 //!
 //! A new sign of one cell is an entry of `PUNCTUATION`; of two cells, an entry of the table for its first cell, and of `SIGNS`; a new pair
 //! kind, an entry of `OPENERS` and of `CLOSERS`, and of `PAIRS`. If its code point is in no table of signs, it is one of `ELSEWHERE` too.
@@ -14,6 +14,7 @@ mod normal;
 mod print;
 mod reader;
 mod refusal;
+mod row;
 mod step;
 mod transcriber;
 
@@ -21,8 +22,8 @@ pub use refusal::Refusal;
 pub use step::{step, Step};
 
 use normal::normalised_len;
-use reader::{pass, Count, Latest, Lent};
 use refusal::reported;
+use row::{Count, Lent, Own, Row};
 
 /// A row of more cells is refused.
 pub const LONGEST_ROW: usize = 12_288;
@@ -34,33 +35,65 @@ pub const LONGEST_TEXT: usize = 4_096;
 ///
 /// `print` may be any sequence of numbers. It is normalised on the way; places are those of the normalised text.
 ///
+/// One pass over print, into a row of its own; if print is accepted, that row is copied.
+///
 /// # Errors
 ///
 /// [`Refusal::TextTooLong`] before all else; then the fault at the least place, one of [`Refusal`]'s last four; then
 /// [`Refusal::NeedsRoom`]. Every element of `row` is then as it was.
 pub fn transcribe(print: &[u32], row: &mut [u8]) -> Result<usize, Refusal> {
+    not_too_long(print)?;
     // To clear a short row costs a short print less.
     match print.len() {
         0..=80 => transcribe_within::<{ 3 * 80 }>(print, row),
         81..=640 => transcribe_within::<{ 3 * 640 }>(print, row),
-        641..=LONGEST_TEXT => transcribe_within::<LONGEST_ROW>(print, row),
-        // Normalising takes no code point away.
-        _ => Err(Refusal::TextTooLong(reported(normalised_len(print)))),
+        _ => transcribe_within::<LONGEST_ROW>(print, row),
     }
 }
 
-/// `N` is three for each code point of print at least, and no row is longer. Not inlined, so that a short row takes a short stack.
+/// As [`transcribe`], under the library's rule ("Each sign goes straight to its own stretch of the lent row"; "A refusal writes nothing"):
+/// there is no row of its own, and nothing is copied. One pass over print counts or refuses, and the next one writes.
+///
+/// # Errors
+///
+/// As [`transcribe`].
+pub fn transcribe_lent(print: &[u32], row: &mut [u8]) -> Result<usize, Refusal> {
+    not_too_long(print)?;
+    let len = transcribed(print, Count::default())?;
+    let row = row.get_mut(..len).ok_or(Refusal::NeedsRoom(len))?;
+    // The same print by the same rules: it has a row, and that is as long.
+    let written = transcribed(print, Lent::new(row));
+    debug_assert!(written == Ok(len), "the passes differ");
+    Ok(len)
+}
+
+/// `N` is three for each code point of print at least, or the greatest length. Not inlined, so that a short row takes a short stack.
 #[inline(never)]
 fn transcribe_within<const N: usize>(print: &[u32], row: &mut [u8]) -> Result<usize, Refusal> {
     let own = &mut [0; N];
-    let passed = transcriber::pass(print, own);
+    let len = transcribed(print, Own::new(own))?;
+    row.get_mut(..len).ok_or(Refusal::NeedsRoom(len))?.copy_from_slice(&own[..len]);
+    Ok(len)
+}
+
+/// Print of no more code points than a text may have. Normalising takes none away.
+#[inline(always)]
+fn not_too_long(print: &[u32]) -> Result<(), Refusal> {
+    if print.len() > LONGEST_TEXT {
+        return Err(Refusal::TextTooLong(reported(normalised_len(print))));
+    }
+    Ok(())
+}
+
+/// One pass over print that is not too long, and the refusals but that for the room. Gives the count of cells.
+#[inline(always)]
+fn transcribed(print: &[u32], row: impl Row) -> Result<usize, Refusal> {
+    let passed = transcriber::pass(print, row);
     let text_len = passed.map_or_else(|_| normalised_len(print), |passed| passed.text_len);
     if text_len > LONGEST_TEXT {
         return Err(Refusal::TextTooLong(text_len));
     }
-    let row_len = passed?.row_len;
-    row.get_mut(..row_len).ok_or(Refusal::NeedsRoom(row_len))?.copy_from_slice(&own[..row_len]);
-    Ok(row_len)
+    Ok(passed?.row_len)
 }
 
 /// Writes the text of `row` into `text`, from its first element on, and gives the count of code points. The elements after them are as they
@@ -88,10 +121,10 @@ pub fn read(row: &[u8], text: &mut [u32]) -> Result<usize, Refusal> {
 /// As [`read`].
 pub fn read_lent(row: &[u8], text: &mut [u32]) -> Result<usize, Refusal> {
     all_cells(row)?;
-    let len = pass(row, Count::default()).ok_or(Refusal::NoText)?.len;
+    let len = reader::pass(row, reader::Count::default()).ok_or(Refusal::NoText)?.len;
     let text = room_for(len, text)?;
     // The same row by the same rules: it has a text, and that is as long.
-    let written = pass(row, Lent { text, len: 0 });
+    let written = reader::pass(row, reader::Lent { text, len: 0 });
     debug_assert!(written.is_some_and(|lent| lent.len == len), "the passes differ");
     Ok(len)
 }
@@ -100,7 +133,7 @@ pub fn read_lent(row: &[u8], text: &mut [u32]) -> Result<usize, Refusal> {
 fn read_within<const N: usize>(row: &[u8], text: &mut [u32]) -> Result<usize, Refusal> {
     all_cells(row)?;
     let own = &mut [0; N];
-    let len = pass(row, Latest { text: own, len: 0 }).ok_or(Refusal::NoText)?.len;
+    let len = reader::pass(row, reader::Latest { text: own, len: 0 }).ok_or(Refusal::NoText)?.len;
     room_for(len, text)?.copy_from_slice(&own[..len]);
     Ok(len)
 }

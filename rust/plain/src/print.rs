@@ -76,7 +76,7 @@ const fn with(mut table: Table, list: &[(char, &str)], less: u32) -> Table {
     table
 }
 
-/// A sign that has the same cells wherever it may stand. In eight bytes, so that one load takes it.
+/// A sign that has the same cells wherever it may stand. In eight bytes, so that its place in a table is a shift away.
 #[derive(Clone, Copy)]
 #[repr(align(8))]
 pub struct Sign {
@@ -109,14 +109,14 @@ const PAIRS: [(char, char, &str); 5] =
 
 /// The sign of a code point; its count is 0 if neither list has one.
 #[inline(always)]
-pub fn sign_of(point: u32) -> Sign {
-    if let Some(&sign) = BELOW_256.get(point as usize) {
+pub fn sign_of(point: u32) -> &'static Sign {
+    if let Some(sign) = BELOW_256.get(point as usize) {
         return sign;
     }
-    if let Some(&sign) = FROM_2010_ON.get(point.wrapping_sub(0x2010) as usize) {
+    if let Some(sign) = FROM_2010_ON.get(point.wrapping_sub(0x2010) as usize) {
         return sign;
     }
-    ELSEWHERE.iter().find(|entry| entry.0 == point).map_or(NO_SIGN, |entry| entry.1)
+    ELSEWHERE.iter().find(|entry| entry.0 == point).map_or(&NO_SIGN, |entry| &entry.1)
 }
 
 static BELOW_256: [Sign; 256] = signs_from(0);

@@ -1,12 +1,10 @@
-//! The rules of transcribing, in one pass over print. It is normalised on the way.
+//! The rules of transcribing, in one pass over print, once for whatever becomes of the cells (`row`). Print is normalised on the way.
 //!
-//! The row is not yet the lent one, so a cell may be written before it is known to stay: how capitals are written, and digits, shows only
-//! behind the last of them.
-//!
-//! Every function is inlined, so that a pass has its places in registers.
+//! Every function is inlined, so that a pass has its places in registers. What it costs is code: a pass has all of it.
 use crate::cells::{D1, D135, D2, D3, D3456, D46, D5};
 use crate::normal::{is_digit, is_ordinal_mark};
 use crate::print::*;
+use crate::row::Row;
 use crate::Refusal;
 
 /// What a pass comes to.
@@ -18,33 +16,32 @@ pub struct Passed {
     pub row_len: usize,
 }
 
-/// Writes the row of print. There must be three elements for each code point of print.
+/// One pass over print: its cells come to the row.
 ///
 /// # Errors
 ///
 /// The fault at the least place of the normalised text.
 #[inline(always)]
-pub fn pass(print: &[u32], row: &mut [u8]) -> Result<Passed, Refusal> {
-    let mut transcriber = Transcriber { print, at: 0, added: 0, open: 0, row, len: 0 };
+pub fn pass(print: &[u32], row: impl Row) -> Result<Passed, Refusal> {
+    let mut transcriber = Transcriber { print, at: 0, added: 0, open: 0, row };
     transcriber.signs()?;
-    Ok(Passed { text_len: transcriber.place(), row_len: transcriber.len })
+    Ok(Passed { text_len: transcriber.place(), row_len: transcriber.row.len() })
 }
 
 /// Print, and its row.
-struct Transcriber<'a> {
+struct Transcriber<'a, R> {
     print: &'a [u32],
     /// What stands before was transcribed.
     at: usize,
     /// Normalising added so many code points to that.
     added: usize,
-    /// The bits of the pair kinds that are open.
+    /// The bits of the pair kinds that are open: 0 where no fault is looked for.
     open: u8,
-    row: &'a mut [u8],
-    /// So many cells were written: never more than three for each code point up to the one at `at`.
-    len: usize,
+    /// Never more than three cells for each code point up to the one at `at`.
+    row: R,
 }
 
-impl Transcriber<'_> {
+impl<R: Row> Transcriber<'_, R> {
     /// The place in the normalised text.
     #[inline(always)]
     fn place(&self) -> usize {
@@ -57,33 +54,24 @@ impl Transcriber<'_> {
         self.print.get(self.at + by).map_or(END, |&point| point)
     }
 
-    /// A cell.
-    #[inline(always)]
-    fn put(&mut self, cell: usize) {
-        self.row[self.len] = cell as u8;
-        self.len += 1;
-    }
-
     /// The code points that a table has, up to the first that it has not.
     #[inline(always)]
     fn run(&mut self, table: &Table) {
-        let mut count = 0;
-        for (&point, element) in self.print[self.at..].iter().zip(&mut self.row[self.len..]) {
-            let Some(cell) = entry(table, point) else { break };
-            *element = cell;
-            count += 1;
-        }
-        self.at += count;
-        self.len += count;
+        self.at += self.row.run(&self.print[self.at..], table);
     }
 
     /// The whole print.
     #[inline(always)]
     fn signs(&mut self) -> Result<(), Refusal> {
-        while let Some(&point) = self.print.get(self.at) {
-            if has(&ALONE, point) {
+        while let Some(&first) = self.print.get(self.at) {
+            let mut point = first;
+            if has(&ALONE, first) {
                 self.run(&ALONE);
-            } else if has(&CAPITALS, point) {
+                // Not one of those: what it is, is asked at once.
+                let Some(&next) = self.print.get(self.at) else { break };
+                point = next;
+            }
+            if has(&CAPITALS, point) {
                 self.capitals();
             } else if is_digit(point) {
                 self.number()?;
@@ -101,6 +89,18 @@ impl Transcriber<'_> {
     #[inline(always)]
     fn sign(&mut self, point: u32) -> Result<(), Refusal> {
         let sign = sign_of(point);
+        if !R::SETTLED {
+            self.may_stand(point, sign)?;
+        }
+        self.row.sign(sign);
+        self.at += 1;
+        self.added += usize::from(sign.added);
+        Ok(())
+    }
+
+    /// Whether this sign of a code point may stand here; the pairs that are open behind it.
+    #[inline(always)]
+    fn may_stand(&mut self, point: u32, sign: &Sign) -> Result<(), Refusal> {
         if sign.count == 0 {
             let of_a_form = is_ordinal_mark(point) || point == BAR;
             return Err(if of_a_form { Refusal::OutsideForm(self.place()) } else { Refusal::NoSign(self.place()) });
@@ -114,11 +114,6 @@ impl Transcriber<'_> {
             return Err(Refusal::SharesCells(self.place() + 1));
         }
         self.open ^= sign.kind;
-        // All three: what is behind the sign's own is written over, or behind the row's end.
-        self.row[self.len..self.len + 3].copy_from_slice(&sign.cells);
-        self.len += usize::from(sign.count);
-        self.at += 1;
-        self.added += usize::from(sign.added);
         Ok(())
     }
 
@@ -127,35 +122,25 @@ impl Transcriber<'_> {
     fn capitals(&mut self) {
         if !has(&CAPITALS, self.ahead(1)) {
             // A single one has a 46 before it, whatever its run is.
-            return self.capitals_up_to(self.at + 1);
+            self.row.capital(self.print[self.at]);
+            self.at += 1;
+            return;
         }
-        let (first, start) = (self.at, self.len);
-        self.put(D46);
-        self.put(D46);
+        let (first, start) = (self.at, self.row.len());
+        self.row.put(D46);
+        self.row.put(D46);
         self.run(&CAPITALS);
         let after_small = first > 0 && has(&SMALL, self.print[first - 1]);
         if after_small || has(&SMALL, self.ahead(0)) {
-            let end = self.at;
-            (self.at, self.len) = (first, start);
-            self.capitals_up_to(end);
+            self.row.back_to(start);
+            self.print[first..self.at].iter().for_each(|&point| self.row.capital(point));
         }
-    }
-
-    /// Capitals that have a 46 each, up to this place of print.
-    #[inline(always)]
-    fn capitals_up_to(&mut self, end: usize) {
-        for &point in &self.print[self.at..end] {
-            self.put(D46);
-            // They are all below 256.
-            self.put(usize::from(CAPITALS[usize::from(point as u8)]));
-        }
-        self.at = end;
     }
 
     /// From a digit on that belongs to nothing yet: a number, an ordinal or a fraction.
     #[inline(always)]
     fn number(&mut self) -> Result<(), Refusal> {
-        self.put(D3456);
+        self.row.put(D3456);
         let first = self.at;
         self.run(&UPPER);
         match (self.ahead(0), self.ahead(1)) {
@@ -181,7 +166,7 @@ impl Transcriber<'_> {
     /// The digits from this place of print on, which were written as a number's, are lower ones.
     #[inline(always)]
     fn lower_from(&mut self, first: usize) {
-        self.len -= self.at - first;
+        self.row.back_to(self.row.len() - (self.at - first));
         self.at = first;
         self.run(&LOWER);
     }
@@ -190,9 +175,9 @@ impl Transcriber<'_> {
     #[inline(always)]
     fn ordinal_mark(&mut self, mark: u32) -> Result<(), Refusal> {
         let feminine = mark == u32::from('ª');
-        self.put(if feminine { D1 } else { D135 });
+        self.row.put(if feminine { D1 } else { D135 });
         self.at += 1;
-        if feminine && is_a_to_j(self.ahead(0)) {
+        if !R::SETTLED && feminine && is_a_to_j(self.ahead(0)) {
             return Err(Refusal::SharesCells(self.place()));
         }
         Ok(())
@@ -201,7 +186,7 @@ impl Transcriber<'_> {
     /// The denominator of a fraction, from its first digit on. It is never 1 alone.
     #[inline(always)]
     fn denominator(&mut self) -> Result<(), Refusal> {
-        if self.ahead(0) == u32::from('1') && !is_digit(self.ahead(1)) {
+        if !R::SETTLED && self.ahead(0) == u32::from('1') && !is_digit(self.ahead(1)) {
             return Err(Refusal::SharesCells(self.place()));
         }
         self.run(&UPPER);
@@ -213,11 +198,11 @@ impl Transcriber<'_> {
     #[inline(always)]
     fn rest_of_number(&mut self) -> Result<(), Refusal> {
         while is_point(self.ahead(0)) && is_digit(self.ahead(1)) {
-            self.put(if self.ahead(0) == STOP { D3 } else { D2 });
+            self.row.put(if self.ahead(0) == STOP { D3 } else { D2 });
             self.at += 1;
             self.run(&UPPER);
         }
-        if is_point(self.ahead(0)) && is_a_to_j(self.ahead(1)) {
+        if !R::SETTLED && is_point(self.ahead(0)) && is_a_to_j(self.ahead(1)) {
             return Err(Refusal::SharesCells(self.place() + 1));
         }
         self.after_digit();
@@ -231,7 +216,7 @@ impl Transcriber<'_> {
         let point = self.ahead(0);
         if is_a_to_j(point) {
             // The letter itself is the start of the next stretch of small letters and punctuation.
-            self.put(D5);
+            self.row.put(D5);
         } else if is_ordinal_mark(point) {
             self.added += 1;
         }

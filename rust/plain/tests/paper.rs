@@ -3,7 +3,6 @@
 mod common;
 
 use common::*;
-use plain::{transcribe, Refusal};
 use std::collections::HashSet;
 
 /// Print has this row.
@@ -82,7 +81,8 @@ fn either_side_of_each_length() {
     assert_eq!(step_at(0, &vec![0; 12_289]), Err((1, 12_289)));
 }
 
-/// The transcriber's own row has one of three lengths, by that of print.
+/// The row of its own that `transcribe` has is of one of three lengths, by that of print; `transcribe_lent` writes no further than the row
+/// goes.
 #[test]
 fn either_side_of_each_own_row() {
     for len in [79, 80, 81, 639, 640, 641, 4_095, 4_096] {
@@ -191,7 +191,7 @@ fn every_other_number_has_no_sign() {
     let listed: HashSet<u32> = points(listed).into_iter().chain(97..=122).chain(65..=90).collect();
     let far = [0x8000_0000, 0x8000_0061, 0xFFFF_FF61, 0xFFFF_FFFE, 0xFFFF_FFFF];
     for other in (0..0x11_0100).chain(far).filter(|other| !listed.contains(other)) {
-        assert_eq!(transcribe(&[97, other], &mut []), Err(Refusal::NoSign(1)), "{other:#x}");
+        assert_eq!(row_within(0, &[97, other]), Err((2, 1)), "{other:#x}");
     }
 }
 

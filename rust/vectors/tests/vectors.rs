@@ -1,4 +1,4 @@
-//! Every vector through the library, and through the plain transcriber, at several rooms.
+//! Every vector through the library, and through the plain transcribers, at several rooms.
 use std::fs::read_to_string;
 use vectors::{of_repository, parse, say, Answer, Vector};
 
@@ -22,16 +22,21 @@ type Shown = (u8, usize);
 /// Paper 01's number for an answer that needs more room than lent.
 const NEEDS_ROOM: u8 = 6;
 
-/// A transcriber: the library's, or the plain one.
+/// A transcriber: the library's, or a plain one.
 type Transcriber = fn(&[u32], &mut [u8]) -> Shown;
 
-const TRANSCRIBERS: [(&str, Transcriber); 2] = [("the library", by_library), ("the plain transcriber", plainly)];
+const TRANSCRIBERS: [(&str, Transcriber); 3] =
+    [("the library", by_library), ("the plain transcriber, lent", by_plain_lent), ("the plain transcriber, copying", by_plain_copying)];
 
 fn by_library(print: &[u32], row: &mut [u8]) -> Shown {
     omdurgash::transcribe(print, row).map_or_else(|refusal| (refusal.number(), refusal.second()), |count| (0, count))
 }
 
-fn plainly(print: &[u32], row: &mut [u8]) -> Shown {
+fn by_plain_lent(print: &[u32], row: &mut [u8]) -> Shown {
+    plain::transcribe_lent(print, row).map_or_else(plain::Refusal::shown, |count| (0, count))
+}
+
+fn by_plain_copying(print: &[u32], row: &mut [u8]) -> Shown {
     plain::transcribe(print, row).map_or_else(plain::Refusal::shown, |count| (0, count))
 }
 

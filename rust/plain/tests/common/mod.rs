@@ -1,7 +1,7 @@
 //! What the tests say of the crate's functions: print in characters, rows in dots, refusals by the two numbers that the desk shows.
 #![allow(dead_code)]
 
-use plain::{read, read_lent, step, transcribe, Refusal, Step};
+use plain::{read, read_lent, step, transcribe, transcribe_lent, Refusal, Step};
 
 /// The two numbers of a refusal.
 pub type Shown = (u8, usize);
@@ -37,9 +37,11 @@ fn written<T: Copy + PartialEq>(room: usize, untouched: T, call: impl FnOnce(&mu
     answer.map(|_| written.to_vec())
 }
 
-/// The row of print, written to a room.
+/// The row of print, written to a room by both transcribers.
 pub fn row_within(room: usize, print: &[u32]) -> Result<Vec<u8>, Shown> {
-    written(room, NO_CELL, |row| transcribe(print, row))
+    let row = written(room, NO_CELL, |row| transcribe(print, row));
+    assert_eq!(written(room, NO_CELL, |row| transcribe_lent(print, row)), row, "{print:?}");
+    row
 }
 
 /// The row of print, written to exactly the room that it needs; with room for one cell less, it is refused.
