@@ -65,25 +65,25 @@ pub const DASHED: usize = 10;
 
 // The fields of a word, from the lowest: where each stands, and how many values it has room for. What is asked of most code points stands where the
 // machine finds it at once: the states in which it is written as usual lowest, its sign in a half of its own, the state after it highest.
-const USUAL: u64 = 1;
+const USUAL: u64 = 1; // the states in which it is written as usual, a bit for each; there is room for 16
 
-const CLASS: u64 = 65536;
+const CLASS: u64 = 65536; // its class
 
 const CLASS_PLACES: u64 = 16;
 
-const MARK: u64 = 1048576;
+const MARK: u64 = 1048576; // its pair mark
 
 const MARK_PLACES: u64 = 16;
 
-const LOWER: u64 = 16777216;
+const LOWER: u64 = 16777216; // the cell of the lower digit
 
 const CELL_PLACES: u64 = 64;
 
-const SIGN: u64 = 4294967296;
+const SIGN: u64 = 4294967296; // its sign, the upper half: its own cells, with their count before them (src/sign.rt)
 
 const SIGN_PLACES: u64 = 1048576;
 
-const COUNT: u64 = SIGN;
+const COUNT: u64 = SIGN; // how many cells, at most three; then the cells
 
 const FIRST: u64 = SIGN * 4;
 
@@ -91,7 +91,7 @@ const SECOND: u64 = SIGN * 256;
 
 const THIRD: u64 = SIGN * 16384;
 
-const THEN: u64 = 1152921504606846976;
+const THEN: u64 = 1152921504606846976; // the state after it where it is written as usual: the highest, so that nothing is above it
 
 const WORD_BITS: usize = 64;
 

@@ -6,7 +6,7 @@ ghost use Rattle.entries.specs.SignWords.{countOf, firstOf, secondOf, th
 // The fields, from the lowest: where each stands, and how many values it has room for.
 const COUNT_PLACES: u32 = 4;
 
-const FIRST: u32 = 4;
+const FIRST: u32 = 4; // the first cell, above the count
 
 const SECOND: u32 = 256;
 
