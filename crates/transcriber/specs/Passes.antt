@@ -31,6 +31,7 @@ dots5 = 16
 abbrev dots3456 : ℕ
 dots3456 = 60
 
+-- none, though it has one: the full stop of an ordinal
 abbrev pub noCell : ℕ
 noCell = 0
 
@@ -43,6 +44,7 @@ waysOf e =
 unfoldable pub signBy : ℕ → ℕ → ℕ
 signBy w e = choose (waysOf e) w noCell
 
+-- and its cells
 abbrev pub cellsBy : ℕ → ℕ → Row
 cellsBy w e = cellsIn (signBy w e)
 

@@ -54,12 +54,12 @@ pub enum Measured {
 // "normalised text above 4,096 code points"
 const LONGEST_TEXT: usize = 4096;
 
-// A text up to these lengths has a shorter array of signs, which is cleared sooner.
+// A text of up to so many code points has an array of so many signs, which is cleared sooner than one for the longest.
 const LINE: usize = 64;
 
 const PARAGRAPH: usize = 512;
 
-// A code point becomes three at most.
+// The most that a print of the first of these lengths becomes: three for each code point.
 const LINE_NORMAL: usize = 3 * LINE;
 
 // The cells that go before a sign's own.
@@ -99,8 +99,8 @@ fn fault_of(deed: usize, place: usize) -> Answer
     }
 }
 
-// The first pass: the sign of each code point, and the count of all their cells; or the first refusal. What follows a place is read only where the
-// table has a question. (A pair mark is never written as usual, so the usual way need not ask for one.)
+// The first pass: the sign of each code point, which is its cells with their count, and the count of them all; or the first refusal. What follows a place
+// is read only where the table has a question. (A pair mark is never written as usual, so the usual way need not ask for one.)
 fn draw(text: &[u32], signs: &mut [u32]) -> Measured
     requires { ⌜ (length (now text) ≤ longestText) × (length (now text) ≤ length (now signs)) ⌝ }
     ensures { λ r. ⌜ (r ≡ measuredOf castilian (plainly (now (text .entry)))) × Drawn r castilian (plainly (now (text .entry))) (take (length (now (text .entry))) (now (signs .exit))) ⌝ }
@@ -205,7 +205,7 @@ fn transcribe_by(text: &[u32], signs: &mut [u32], row: &mut [u8]) -> Answer
     }
 }
 
-// A normalised text. A short one has a short array of signs cleared for it.
+// A normalised text.
 fn transcribe_normal(text: &[u32], row: &mut [u8]) -> Answer
     requires { ⌜ length (now text) ≤ longestText ⌝ }
     ensures { λ r. ⌜ (r ≡ answerOf castilian (plainly (now (text .entry))) (length (now (row .entry)))) × (now (row .exit) ≡ outOf castilian (plainly (now (text .entry))) (now (row .entry))) ⌝ }
