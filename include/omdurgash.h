@@ -67,7 +67,7 @@ struct desk_shown {
  *   - a pointer points to as many elements as the length after it says, which can be read, and also written where the pointer is not to const;
  *   - no pointer is null, and one to uint32_t is aligned as such, also where the length is 0 (the address of any variable of the type will do);
  *   - what can be written shares no byte with the other argument, and no other thread touches it, or writes to the other, during the call;
- *   - some 24 kilobytes of the stack are free.
+ *   - some 40 kilobytes of the stack are free.
  * Nothing else is asked: any numbers may stand in what is lent, and any length is answered.
  */
 

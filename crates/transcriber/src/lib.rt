@@ -1,6 +1,7 @@
 // Print to cells. `transcribe` is the public function; what it promises is specs/Promise.antt.
 // Two passes: `draw` finds the sign of each code point and counts the cells, or finds the first refusal; `write` writes the signs. So nothing is written
-// before all is known to fit, and no code point is looked up twice.
+// before all is known to fit, and no code point is looked up twice. “ ” ‹ › are looked up as what they become, « » ‘ ’ (`plainly`), so only print with …, or with
+// º or ª that lacks its full stop, is copied.
 use entries::FREE;
 use normal::Normalised;
 use pairs::Pairs;
@@ -193,7 +194,7 @@ fn fitted(signs: &[u32], row: &mut [u8], n: usize) -> Answer
     Answer::Done(write(signs, row))
 }
 
-// A normalised text, with room for a sign for each of its code points.
+// A text that is normalised, or that is so with « for “, with room for a sign for each of its code points.
 fn transcribe_by(text: &[u32], signs: &mut [u32], row: &mut [u8]) -> Answer
     requires { ⌜ (length (now text) ≤ longestText) × (length (now text) ≤ length (now signs)) ⌝ }
     ensures { λ r. ⌜ (r ≡ answerOf castilian (plainly (now (text .entry))) (length (now (row .entry)))) × (now (row .exit) ≡ outOf castilian (plainly (now (text .entry))) (now (row .entry))) ⌝ }
@@ -205,7 +206,7 @@ fn transcribe_by(text: &[u32], signs: &mut [u32], row: &mut [u8]) -> Answer
     }
 }
 
-// A normalised text.
+// The same, with an array for the signs.
 fn transcribe_normal(text: &[u32], row: &mut [u8]) -> Answer
     requires { ⌜ length (now text) ≤ longestText ⌝ }
     ensures { λ r. ⌜ (r ≡ answerOf castilian (plainly (now (text .entry))) (length (now (row .entry)))) × (now (row .exit) ≡ outOf castilian (plainly (now (text .entry))) (now (row .entry))) ⌝ }
@@ -262,7 +263,7 @@ fn accepts(answer: Answer) -> bool
 }
 
 // Print to cells: the answer of the rules for any print and any lent row, which then holds the cells from its first element on and is otherwise
-// as it was. Print that is normal already is not copied: what the rules accept is normal, so the copy is asked for only where they refuse.
+// as it was. What the rules accept, with « for “, is normal so; a copy is asked for only where they refuse.
 // Two wrong programs that the promise shuts out: one that refuses all, and one that leaves a cell behind where it refuses.
 pub fn transcribe(print: &[u32], row: &mut [u8]) -> Answer
     ensures { λ r. ⌜ Transcribed castilian (now (print .entry)) (now (row .entry)) r (now (row .exit)) ⌝ }

@@ -26,7 +26,7 @@
 //! | thin: they write to what is lent, and nothing is allocated | [`transcribe`] | [`read()`] | [`step`], [`signs`] |
 //! | they allocate what they give | [`to_cells`], [`braille`] | [`to_text`] | |
 //!
-//! Nothing is kept between two calls, and any thread may call. A call takes some 20 kilobytes of the stack; `to_cells` and `to_text` take
+//! Nothing is kept between two calls, and any thread may call. A call takes some 40 kilobytes of the stack; `to_cells` and `to_text` take
 //! up to 16 more.
 //!
 //! # What is proved, and what is not
