@@ -53,7 +53,8 @@ told a b e = ap acceptedBy (sym (from-a a .transcribe-normal .ensures .0)) ∙ s
 -- the answer to a print that is normal is the promised one
 same : (n : N) → normalOf (print n) ≡ print n → Transcribed castilian (print n) (row n) (n .transcribe-normal .result) (n .transcribe-normal .last .1 .0)
 same n e =
-    carried castilian (print n) (row n) (subst (λ (t : List ℕ). length t ≤ longestText) (sym e) (n .before .before .if1 .left)) (print n) (sym e) _ _
+    let short : length (print n) ≤ longestText = omega (arith, n .before .before .if1 .left) in
+    carried castilian (print n) (row n) (subst (λ (t : List ℕ). length t ≤ longestText) (sym e) short) (print n) (sym e) _ _
     (n .transcribe-normal .ensures)
 
 normal-length-requires : tie.Need-normal-length-requires
