@@ -60,8 +60,8 @@ told a b e = ap acceptedBy (sym (from-a a .transcribe-normal .ensures .0)) ∙ s
 same : (n : N) → normalOf (text n) ≡ text n → Transcribed castilian (print n) (row n) (n .transcribe-normal .result) (n .transcribe-normal .last .1 .0)
 same n e =
     let plain-is : text n ≡ normalOf (print n) = sym e ∙ normal-plainly (print n) in
-    carried castilian (print n) (row n)
-    (subst (λ (k : ℕ). k ≤ longestText) (sym (plainly-length (print n)) ∙ ap length plain-is) (n .before .before .if1 .left)) (text n) plain-is _ _
+    let short : length (print n) ≤ longestText = omega (arith, n .before .before .if1 .left) in
+    carried castilian (print n) (row n) (subst (λ (k : ℕ). k ≤ longestText) (sym (plainly-length (print n)) ∙ ap length plain-is) short) (text n) plain-is _ _
     (n .transcribe-normal .ensures)
 
 normal-length-requires : tie.Need-normal-length-requires

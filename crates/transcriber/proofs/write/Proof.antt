@@ -1,7 +1,7 @@
 -- `write`: between two turns the lent row, with the cells of the signs still to come laid behind what is written, is the row that it will be (`Wid`). A turn
 -- lends the rest of the row to the writer of one sign (`wid-on`). The measure is how many signs are left. Assumes nothing.
 use mathlib.Core.List.{List}
-use Prim.Native.Nat.{ℕ, _-_}
+use Prim.Native.Nat.{ℕ, _-_, _≤_, _<_}
 use native.Mathlib.Omega.{arith}
 use lib.ListN.{length}
 use Rattle.transcriber.proofs.Writing.{Wid, wid-start, wid-room, wid-few, wid-on, wid-end}
@@ -31,6 +31,13 @@ signs l = start l .args .signs .now
 abbrev row₀ : L → List ℕ
 row₀ l = start l .args .row .now
 
+-- and there is a sign; or there is none
+inside : (c : tie.In-loop Inv-loop μ-loop) → c .before .loop .place < length (signs (c .before))
+inside c = omega (arith, c .loop-test .taken)
+
+ended : (c : tie.After-loop Inv-loop μ-loop) → length (signs (c .before)) ≤ c .before .loop .place
+ended c = omega (arith, c .loop-test .left)
+
 loop-holds : tie.Need-loop-holds Inv-loop μ-loop
 loop-holds c = wid-start (c .before .before .args .signs .now) (c .before .before .args .row .now)
 
@@ -52,7 +59,7 @@ shared-slice-read-put-cells c = search needs
 put-cells-requires : tie.Need-put-cells-requires Inv-loop μ-loop
 put-cells-requires c κs =
     let l = c .before .before .before in
-    wid-room (signs l) (row₀ l) (l .loop .row) (l .loop .n) (l .loop .place) (l .loop .inv) (start l .pre) (c .before .before .loop-test .taken)
+    wid-room (signs l) (row₀ l) (l .loop .row) (l .loop .n) (l .loop .place) (l .loop .inv) (start l .pre) (inside (c .before .before))
 
 add-n : tie.Need-add-n Inv-loop μ-loop
 add-n c =
@@ -63,7 +70,7 @@ add-n c =
       p .put-cells .ensures .0,
       l .loop .inv .same,
       start l .good .1,
-      wid-few (signs l) (row₀ l) (l .loop .row) (l .loop .n) (l .loop .place) (l .loop .inv) (start l .pre) (p .before .before .before .loop-test .taken),
+      wid-few (signs l) (row₀ l) (l .loop .row) (l .loop .n) (l .loop .place) (l .loop .inv) (start l .pre) (inside (p .before .before .before)),
     )
 
 add-place : tie.Need-add-place Inv-loop μ-loop
@@ -76,7 +83,7 @@ loop-again : tie.Need-loop-again Inv-loop μ-loop
 loop-again c =
     let p = c .before .before in
     let l = p .before .before .before .before in
-    wid-on (signs l) (row₀ l) (l .loop .row) (l .loop .n) (l .loop .place) (l .loop .inv) (start l .pre) (p .before .before .before .loop-test .taken)
+    wid-on (signs l) (row₀ l) (l .loop .row) (l .loop .n) (l .loop .place) (l .loop .inv) (start l .pre) (inside (p .before .before .before))
     (p .put-cells .result) _ (p .put-cells .ensures .0) (p .put-cells .ensures .1)
 
 same-length : tie.Need-same-length Inv-loop μ-loop
@@ -85,7 +92,7 @@ same-length c = search needs
 returns : tie.Need-returns Inv-loop μ-loop
 returns c =
     let l = c .before in
-    wid-end (signs l) (row₀ l) (l .loop .row) (l .loop .n) (l .loop .place) (l .loop .inv) (start l .pre) (c .loop-test .left)
+    wid-end (signs l) (row₀ l) (l .loop .row) (l .loop .n) (l .loop .place) (l .loop .inv) (start l .pre) (ended c)
 
 pub write-spec : {M : Type 1} → statement M
 write-spec =
