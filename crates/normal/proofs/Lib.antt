@@ -1,4 +1,5 @@
 pub mod Becoming
 pub mod Turns
+pub mod Counts
 pub mod Lengths
 pub mod Unique

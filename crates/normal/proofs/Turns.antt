@@ -1,16 +1,12 @@
 -- One turn of a loop over print, by what is still to come: behind place i the loops have the normalised print of the rest, d telling whether
 -- a digit stands directly before. A turn takes what the code point at i becomes off its front (`normal-turn`), and at the end nothing is
--- left (`normal-end`). From these: what is counted and what is still to come is the whole length (`count-turn`), of which a number that has
--- reached the greatest is reported as the greatest (`counted-enough`); and the print is normal exactly when the rest of it is (`Settles`),
--- as long as each code point is kept. Assumes nothing.
+-- left (`normal-end`). From these: the print is normal exactly when the rest of it is (`Settles`), as long as each code point is kept. Assumes nothing.
 use mathlib.Core.Path.{_≡_, sym, _∙_, ap, subst}
 use mathlib.Core.Bool.{Bool, true, false, not}
 use mathlib.Core.List.{[], _∷_, _++_}
-use Prim.Native.Nat.{ℕ, _+_, _≤_, _<_, min}
-use native.Mathlib.Nat.{min-eq-right}
+use Prim.Native.Nat.{ℕ, _+_, _≤_, _<_}
 use native.Mathlib.Numerals.{add-one}
-use native.Mathlib.Omega.{arith}
-use lib.ListN.{length, drop, getD, length-append, drop-of-length-le}
+use lib.ListN.{length, drop, getD, drop-of-length-le}
 use lib.Seq.{drop-cons}
 use borrow.Author.Tests.{not-true, not-false}
 use Rattle.rules.specs.Cells.{Text}
@@ -45,10 +41,6 @@ module _ (p : Text) (i : ℕ) (d : Bool) where
     rest-is : drop i p ≡ getD p i 0 ∷ drop (i + 1) p
     rest-is = rw (add-one, drop-cons p i 0)
 
-    pub count-turn : (n r all : ℕ) → r ≡ length (becomes d (getD p i 0)) → n + length (normalAfter d (drop i p)) ≡ all
-        → n + r + length (normalAfter e (drop (i + 1) p)) ≡ all
-    count-turn n r all a b = omega (arith, ap length turn-to, length-append (becomes d (getD p i 0)) (normalAfter e (drop (i + 1) p)))
-
     pub settles-turn : (k : Bool) → TellsKept k d (getD p i 0) → not k ≡ false → Settles p i d → Settles p (i + 1) e
     settles-turn k t h s = (λ q. s .0 (on q), λ q. back (s .1 q))
       where
@@ -65,7 +57,3 @@ module _ (p : Text) (i : ℕ) (d : Bool) where
     settles-not k t h s q =
         subst (λ (b : Bool). TellsKept b d (getD p i 0)) (not-true k h) t (normalAfter e (drop (i + 1) p)) (drop (i + 1) p)
         (sym turn-to ∙ s .1 q ∙ rest-is)
-
--- a count that has reached the greatest number that is reported: so has the whole length
-pub counted-enough : (greatest n rest all : ℕ) → greatest ≤ n → n + rest ≡ all → greatest ≡ min all greatest
-counted-enough greatest n rest all h e = sym (min-eq-right (omega arith))

@@ -1,6 +1,6 @@
 // Normalised print (paper 01, "Normalised print"): its length, whether a print is normal already, and the copy that is.
 // A new replacement by one code point is a constant and an arm of `replacement` here, in the order of the list, and a line of
-// crates/rules/specs/Normal.antt. Only … becomes more than one: `points_of`, `put_points` and `is_kept` say so.
+// crates/rules/specs/Normal.antt. Only … becomes more than one: `ELLIPSIS_ADDS`, `put_points` and `is_kept` say so.
 ghost use mathlib.Core.Path.{_≡_};
 ghost use mathlib.Core.Bool.{_&&_};
 ghost use mathlib.Core.List.{[], _∷_};
@@ -9,6 +9,7 @@ ghost use lib.ListN.{length};
 ghost use Rattle.rows.specs.Laid.{laid};
 ghost use Rattle.rules.specs.Normal.{replacements, replacedBy, isDigitPoint, isOrdinalPoint, becomes, normalOf};
 ghost use Rattle.rules.specs.Refusals.{reported};
+ghost use Rattle.normal.specs.Counts.{greatestCount, ellipsesIn, stopsIn};
 ghost use Rattle.normal.specs.Copies.{normalisedOf, copyOf};
 ghost use Rattle.normal.specs.Same.{TellsNormal, TellsKept};
 
@@ -40,6 +41,9 @@ const ELLIPSIS: u32 = 0x2026; // …
 const LEFT_ANGLE: u32 = 0x2039; // ‹
 
 const RIGHT_ANGLE: u32 = 0x203a; // ›
+
+// "U+2026 becomes three full stops": so the text gets two code points more.
+const ELLIPSIS_ADDS: usize = 2;
 
 // "A length above 4,294,967,295 is reported as that number."
 const GREATEST_REPORTED: usize = 4294967295;
@@ -88,16 +92,6 @@ fn replacement(point: u32) -> u32
     }
 }
 
-// How many code points one becomes.
-fn points_of(after_digit: bool, point: u32) -> usize
-    ensures { λ r. ⌜ r ≡ length (becomes «after_digit» point) ⌝ }
-{
-    if gets_stop(after_digit, point) {
-        return 2;
-    }
-    if point == ELLIPSIS { 3 } else { 1 }
-}
-
 // Writes what a code point becomes at the front of what it is lent.
 fn put_points(text: &mut [u32], after_digit: bool, point: u32) -> usize
     requires { ⌜ length (becomes «after_digit» point) ≤ length (now text) ⌝ }
@@ -118,24 +112,52 @@ fn put_points(text: &mut [u32], after_digit: bool, point: u32) -> usize
     1
 }
 
-// The length of the normalised print, as it is reported. It is counted without wrapping for any print: counting ends at the greatest
-// number that is reported.
+// How many … the print has. The loop counts in 32 bits and has no way out but its end, so that the machine can take several code points at once.
+fn ellipses_in(print: &[u32]) -> u32
+    requires { ⌜ length (now print) ≤ greatestCount ⌝ }
+    ensures { λ r. ⌜ r ≡ ellipsesIn (now (print .entry)) ⌝ }
+{
+    let mut count: u32 = 0;
+    let mut i: usize = 0;
+    while i < print.len() {
+        if print[i] == ELLIPSIS {
+            count += 1;
+        }
+        i += 1;
+    }
+    count
+}
+
+// How many º and ª of the print get a full stop, counted in the same way. The first code point gets none: no digit is before it.
+fn stops_in(print: &[u32]) -> u32
+    requires { ⌜ length (now print) ≤ greatestCount ⌝ }
+    ensures { λ r. ⌜ r ≡ stopsIn (now (print .entry)) ⌝ }
+{
+    let mut count: u32 = 0;
+    let mut i: usize = 1;
+    while i < print.len() {
+        if gets_stop(is_digit(print[i - 1]), print[i]) {
+            count += 1;
+        }
+        i += 1;
+    }
+    count
+}
+
+// The length of the normalised print, as it is reported. Normalising takes nothing away, so print of the greatest length or more need not be counted; in
+// shorter print both counts fit in 32 bits.
 pub fn normal_length(print: &[u32]) -> usize
     ensures { λ r. ⌜ r ≡ reported (length (normalOf (now (print .entry)))) ⌝ }
 {
-    let mut after_digit = false;
-    let mut n: usize = 0;
-    let mut i: usize = 0;
-    while i < print.len() {
-        let point = print[i];
-        n = n + points_of(after_digit, point);
-        if GREATEST_REPORTED <= n {
-            return GREATEST_REPORTED;
-        }
-        after_digit = is_digit(point);
-        i += 1;
+    if GREATEST_REPORTED <= print.len() {
+        return GREATEST_REPORTED;
     }
-    n
+    let n = print.len() + ELLIPSIS_ADDS * ellipses_in(print) as usize + stops_in(print) as usize;
+    if n <= GREATEST_REPORTED {
+        n
+    } else {
+        GREATEST_REPORTED
+    }
 }
 
 // Does normalising leave this code point as it is?
