@@ -15,14 +15,15 @@ use Rattle.entries.specs.Entries.{entryOf, classIn, signIn, thenIn, markIn, usu
 use Rattle.turns.specs.Stages.{futureAt, deedOf, settledBy}
 use Rattle.turns.proofs.Machine.{settled-low}
 use Rattle.turns.proofs.Ahead.{future-plainly}
-use Rattle.transcriber.specs.Passes.{signBy, joined, measuredOf}
-use Rattle.transcriber.specs.declared.Measured.the-variants.{Cells, Refused}
-use Rattle.transcriber.proofs.Going.{held}
-use Rattle.transcriber.proofs.Drawing.{Mid, Passed, some-number, passed-none, passed-mark, not-passed, mark-small, act-is, passed-usual, went-deed, went-usual, mid-start, mid-broken, mid-fault, mid-on, mid-done, mid-open}
-use Rattle.transcriber.proofs.draw.Statement.{statement}
-use Rattle.transcriber.proofs.draw.Tie as tie
-use Rattle.transcriber.proofs.draw.Reads as reads
-use Rattle.transcriber.proofs.draw.Lts as lts
+use Rattle.writing.specs.Joined.{joined}
+use Rattle.passes.specs.Passes.{signBy, measuredOf}
+use Rattle.passes.specs.declared.Measured.the-variants.{Cells, Refused}
+use Rattle.passes.proofs.Going.{held}
+use Rattle.passes.proofs.Drawing.{Mid, Passed, some-number, passed-none, passed-mark, not-passed, mark-small, act-is, passed-usual, went-deed, went-usual, mid-start, mid-broken, mid-fault, mid-on, mid-done, mid-open}
+use Rattle.passes.proofs.draw.Statement.{statement}
+use Rattle.passes.proofs.draw.Tie as tie
+use Rattle.passes.proofs.draw.Reads as reads
+use Rattle.passes.proofs.draw.Lts as lts
 use Rattle.entries.proofs.class_in.Reads as class-in-reads
 use Rattle.entries.proofs.entry_of.Reads as entry-of-reads
 use Rattle.entries.proofs.is_usual.Reads as is-usual-reads
@@ -31,8 +32,8 @@ use Rattle.entries.proofs.sign.count_of.Reads as count-of-reads
 use Rattle.entries.proofs.sign_in.Reads as sign-in-reads
 use Rattle.entries.proofs.then_in.Reads as then-in-reads
 use Rattle.pairs.proofs.pairs_after.Reads as pairs-after-reads
-use Rattle.transcriber.proofs.fault_of.Reads as fault-of-reads
-use Rattle.transcriber.proofs.sign_of.Reads as sign-of-reads
+use Rattle.passes.proofs.fault_of.Reads as fault-of-reads
+use Rattle.passes.proofs.sign_of.Reads as sign-of-reads
 use Rattle.turns.proofs.deed_of.Reads as deed-of-reads
 use Rattle.turns.proofs.settled.Reads as settled-reads
 
