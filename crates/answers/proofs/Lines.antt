@@ -14,7 +14,7 @@ use Rattle.rules.specs.Refusals.{Refusal, numberOf, secondOf}
 use Rattle.rules.proofs.Refusals.{refusal-not-0}
 use Rattle.rules.specs.Answers as rules
 use Rattle.rules.specs.Answers.{gives, refuses, PrintAnswer, transcribed, RowAnswer, read}
-use Rattle.transcriber.specs.declared.Answer.{Answer}
+use Rattle.passes.specs.declared.Answer.{Answer}
 use Rattle.transcriber.specs.Promise as written
 use Rattle.reader.specs.declared.Answer as reading
 use Rattle.reader.specs.Promise as told

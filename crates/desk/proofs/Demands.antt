@@ -18,8 +18,8 @@ use Rattle.rules.proofs.Castilian.{sane}
 use Rattle.rows.proofs.Laid.{front}
 use Rattle.rows.specs.Laid.{laid}
 use Rattle.readings.specs.Print.{points}
-use Rattle.transcriber.specs.declared.Answer as print
-use Rattle.transcriber.specs.declared.Answer.the-variants as prints
+use Rattle.passes.specs.declared.Answer as print
+use Rattle.passes.specs.declared.Answer.the-variants as prints
 use Rattle.transcriber.specs.Promise as transcribing
 use Rattle.transcriber.specs.Promise.{Transcribed}
 use Rattle.transcriber.proofs.Claims as transcriber

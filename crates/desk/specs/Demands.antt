@@ -10,8 +10,8 @@ use Rattle.rules.specs.Cells.{Text, Row}
 use Rattle.rules.specs.Sorts.{Table}
 use Rattle.rules.specs.Normal.{normalOf}
 use Rattle.rules.specs.Demands as rules
-use Rattle.transcriber.specs.declared.Answer as print
-use Rattle.transcriber.specs.declared.Answer.the-variants as prints
+use Rattle.passes.specs.declared.Answer as print
+use Rattle.passes.specs.declared.Answer.the-variants as prints
 use Rattle.transcriber.specs.Promise.{Transcribed}
 use Rattle.transcriber.specs.Claims as transcriber
 use Rattle.reader.specs.declared.Answer as row

@@ -7,7 +7,7 @@ use Prim.Native.Nat.{ℕ}
 use lib.Dec.{eqb}
 use Rattle.rules.specs.Cells.{Text, Row}
 use Rattle.rules.specs.Sorts.{Table}
-use Rattle.transcriber.specs.declared.Answer.{Answer}
+use Rattle.passes.specs.declared.Answer.{Answer}
 use Rattle.transcriber.specs.Promise.{numbersOf, Transcribed}
 use Rattle.reader.specs.declared.Answer as reading
 use Rattle.reader.specs.declared.Shown as stepping

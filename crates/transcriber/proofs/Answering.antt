@@ -1,11 +1,10 @@
--- From what the passes find to the promise. In order: the ends of `fitted` and `transcribe_by`, over plain values; what an answer tells; the answer to a
--- normalised text is the rules' (`carried`). For any table. Assumes nothing.
+-- From what the passes answer to the promise. In order: what an answer tells; the answer to a normalised text is the rules' (`carried`). For any table.
+-- Assumes nothing.
 use mathlib.Core.Path.{_≡_, refl, sym, ap, _∙_, subst}
 use mathlib.Core.Bool.{Bool, true, false, cond, true≢false}
 use mathlib.Core.List.{List}
 use mathlib.Core.Logic.{⊎-elim}
 use Prim.Native.Nat.{ℕ, _≤_, _<_}
-use native.Mathlib.Omega.{arith}
 use lib.Dec.{leb}
 use lib.ListN.{length}
 use borrow.Author.Tests.{le-leb, lt-leb}
@@ -21,19 +20,12 @@ use Rattle.rules.proofs.Rows.{whole-row}
 use Rattle.rules.proofs.Answers.{choose-le, choose-lt, by-verdict, answered, short-answer}
 use Rattle.rows.specs.Laid.{laid}
 use Rattle.transcriber.specs.Promise.{Transcribed, done, refused}
-use Rattle.transcriber.specs.Passes.{shown, measuredOf, fittedBy, writtenBy, answerOf, outOf, acceptedBy}
-use Rattle.transcriber.specs.declared.Answer.{Answer}
-use Rattle.transcriber.specs.declared.Answer.the-variants.{Done, TooLong, NoSign, PairBroken, OutsideForm, SharesCells, NeedsRoom}
-use Rattle.transcriber.specs.declared.Measured.{Measured}
-use Rattle.transcriber.specs.declared.Measured.the-variants.{Cells, Refused}
-
--- what is measured as cells is accepted, and the count is the row's
-shown-cells : (v : Verdict) (m n : ℕ) → shown v m ≡ Cells n → (v ≡ good) × (n ≡ m)
-shown-cells good m n e = (refl, cc)
-shown-cells (bad lacksSign i) m n e = let z : _≡_ {A = ℕ} 0 1 = cc in absurd (omega arith)
-shown-cells (bad breaksPair i) m n e = let z : _≡_ {A = ℕ} 0 1 = cc in absurd (omega arith)
-shown-cells (bad outsideForm i) m n e = let z : _≡_ {A = ℕ} 0 1 = cc in absurd (omega arith)
-shown-cells (bad sharesCells i) m n e = let z : _≡_ {A = ℕ} 0 1 = cc in absurd (omega arith)
+use Rattle.passes.specs.Passes.{shown, measuredOf, fittedBy, writtenBy, answerOf, outOf}
+use Rattle.transcriber.specs.Answering.{acceptedBy}
+use Rattle.passes.specs.declared.Answer.{Answer}
+use Rattle.passes.specs.declared.Answer.the-variants.{Done, TooLong, NoSign, PairBroken, OutsideForm, SharesCells, NeedsRoom}
+use Rattle.passes.specs.declared.Measured.{Measured}
+use Rattle.passes.specs.declared.Measured.the-variants.{Cells, Refused}
 
 -- an answer that accepts is to an accepted text; one that does not leaves the row as it was
 shown-good : (v : Verdict) (m room : ℕ) → acceptedBy (fittedBy (shown v m) room) ≡ true → v ≡ good
@@ -54,42 +46,15 @@ shown-kept (bad breaksPair i) m r lent e = refl
 shown-kept (bad outsideForm i) m r lent e = refl
 shown-kept (bad sharesCells i) m r lent e = refl
 
--- THE ENDS of `fitted`: n cells, which are this row
-module _ (n : ℕ) (r : Row) (lent : List ℕ) where
-  pub cramped : length lent < n → (NeedsRoom n ≡ fittedBy (Cells n) (length lent)) × (lent ≡ writtenBy (Cells n) r lent)
-  cramped l = rw (lt-leb n (length lent) l) (refl, refl)
+module _ (tb : Table) (t : Text) (lent : List ℕ) where
+  -- what an answer tells: that the text is accepted; or that it is refused, and nothing was written
+  pub accepted-good : acceptedBy (answerOf tb t (length lent)) ≡ true → verdictOf tb t ≡ good
+  unfolding answerOf measuredOf
+  accepted-good e = shown-good (verdictOf tb t) (length (whole-row tb t)) (length lent) e
 
-  pub fitting : n ≤ length lent → (k : ℕ) (new : List ℕ) → k ≡ n → new ≡ laid r lent
-      → (Done k ≡ fittedBy (Cells n) (length lent)) × (new ≡ writtenBy (Cells n) r lent)
-  fitting l k new e w = rw (le-leb n (length lent) l) (ap Done e, w)
-
-module _ (tb : Table) (t : Text) where
-  pub measured-cells : (n : ℕ) → measuredOf tb t ≡ Cells n → (verdictOf tb t ≡ good) × (n ≡ length (whole-row tb t))
-  unfolding measuredOf
-  measured-cells n e = shown-cells (verdictOf tb t) (length (whole-row tb t)) n e
-
-  module _ (lent : List ℕ) where
-    -- the ends of `transcribe_by`
-    pub measured-fitted : (n : ℕ) (r : Row) (a : Answer) (new : List ℕ) → Cells n ≡ measuredOf tb t → r ≡ whole-row tb t
-        → (a ≡ fittedBy (Cells n) (length lent)) × (new ≡ writtenBy (Cells n) r lent) → (a ≡ answerOf tb t (length lent)) × (new ≡ outOf tb t lent)
-    unfolding answerOf outOf
-    measured-fitted n r a new e q h = (
-      h .0 ∙ ap (λ (m : Measured). fittedBy m (length lent)) e,
-      h .1 ∙ ap (λ (x : Row). writtenBy (Cells n) x lent) q ∙ ap (λ (m : Measured). writtenBy m (whole-row tb t) lent) e,
-    )
-
-    pub measured-refused : (a : Answer) → Refused a ≡ measuredOf tb t → (a ≡ answerOf tb t (length lent)) × (lent ≡ outOf tb t lent)
-    unfolding answerOf outOf
-    measured-refused a e = (ap (λ (m : Measured). fittedBy m (length lent)) e, ap (λ (m : Measured). writtenBy m (whole-row tb t) lent) e)
-
-    -- what an answer tells: that the text is accepted; or that it is refused, and nothing was written
-    pub accepted-good : acceptedBy (answerOf tb t (length lent)) ≡ true → verdictOf tb t ≡ good
-    unfolding answerOf measuredOf
-    accepted-good e = shown-good (verdictOf tb t) (length (whole-row tb t)) (length lent) e
-
-    pub refused-kept : acceptedBy (answerOf tb t (length lent)) ≡ false → outOf tb t lent ≡ lent
-    unfolding answerOf outOf measuredOf
-    refused-kept e = shown-kept (verdictOf tb t) (length (whole-row tb t)) (whole-row tb t) lent e
+  pub refused-kept : acceptedBy (answerOf tb t (length lent)) ≡ false → outOf tb t lent ≡ lent
+  unfolding answerOf outOf measuredOf
+  refused-kept e = shown-kept (verdictOf tb t) (length (whole-row tb t)) (whole-row tb t) lent e
 
 -- THE PROMISE
 module _ (tb : Table) (p : Text) (lent : List ℕ) where

@@ -23,8 +23,8 @@ use Rattle.rules.proofs.Castilian.{sane}
 use Rattle.rules.proofs.Answers as answers
 use Rattle.rows.specs.Laid.{laid}
 use Rattle.rows.proofs.Laid.{length-laid, front}
-use Rattle.transcriber.specs.declared.Answer.{Answer}
-use Rattle.transcriber.specs.declared.Answer.the-variants.{Done, TooLong, NoSign, PairBroken, OutsideForm, SharesCells, NeedsRoom}
+use Rattle.passes.specs.declared.Answer.{Answer}
+use Rattle.passes.specs.declared.Answer.the-variants.{Done, TooLong, NoSign, PairBroken, OutsideForm, SharesCells, NeedsRoom}
 use Rattle.transcriber.specs.Promise.{refusalOf, Transcribed, done, refused}
 use Rattle.transcriber.specs.Claims.{OneOutcome, Refuses, RefusedExactly, CountIsLength, RestAsItWas, RefusalWritesNothing, ReadsBack}
 

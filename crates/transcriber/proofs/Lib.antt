@@ -1,6 +1,2 @@
-pub mod Joined
-pub mod Going
-pub mod Drawing
-pub mod Writing
 pub mod Answering
 pub mod Claims

@@ -13,8 +13,8 @@ use Rattle.rules.specs.Normal.{normalOf}
 use Rattle.rules.specs.Rows.{Reads, Accepted}
 use Rattle.rules.specs.Refusals.{Refusal, longestText}
 use Rattle.rules.specs.Answers.{gives, RowAnswer}
-use Rattle.transcriber.specs.declared.Answer.{Answer}
-use Rattle.transcriber.specs.declared.Answer.the-variants.{Done}
+use Rattle.passes.specs.declared.Answer.{Answer}
+use Rattle.passes.specs.declared.Answer.the-variants.{Done}
 use Rattle.transcriber.specs.Promise.{refusalOf, Transcribed}
 
 -- "any two results allowed by one statement are proved equal"

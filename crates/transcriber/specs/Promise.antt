@@ -12,8 +12,8 @@ use Rattle.rules.specs.Places.{lacksSign, breaksPair, outsideForm, sharesCells}
 use Rattle.rules.specs.Refusals.{Refusal, tooLong, atFault, needsRoom, numberOf, secondOf}
 use Rattle.rules.specs.Answers.{gives, refuses, PrintAnswer}
 use Rattle.rows.specs.Laid.{laid}
-use Rattle.transcriber.specs.declared.Answer.{Answer}
-use Rattle.transcriber.specs.declared.Answer.the-variants.{Done, TooLong, NoSign, PairBroken, OutsideForm, SharesCells, NeedsRoom}
+use Rattle.passes.specs.declared.Answer.{Answer}
+use Rattle.passes.specs.declared.Answer.the-variants.{Done, TooLong, NoSign, PairBroken, OutsideForm, SharesCells, NeedsRoom}
 
 -- the refusal that an answer is, by the paper's table; `Done` is none
 abbrev pub refusalOf : Answer → Option Refusal

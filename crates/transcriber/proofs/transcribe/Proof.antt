@@ -16,7 +16,8 @@ use Rattle.rules.proofs.Rows.{whole-row, good-reads}
 use Rattle.rules.proofs.Demands.{accepted-is-normal}
 use Rattle.normal.specs.Same.{TellsNormal}
 use Rattle.transcriber.specs.Promise.{Transcribed}
-use Rattle.transcriber.specs.Passes.{answerOf, acceptedBy}
+use Rattle.passes.specs.Passes.{answerOf}
+use Rattle.transcriber.specs.Answering.{acceptedBy}
 use Rattle.transcriber.proofs.Answering.{accepted-good, refused-kept, carried, promised-long}
 use borrow.Author.Needs.{needs}
 use Rattle.transcriber.proofs.transcribe.Statement.{statement}
@@ -27,7 +28,7 @@ use Rattle.normal.proofs.is_normal.Reads as is-normal-reads
 use Rattle.normal.proofs.normal_length.Reads as normal-length-reads
 use Rattle.transcriber.proofs.accepts.Reads as accepts-reads
 use Rattle.transcriber.proofs.transcribe_copy.Reads as transcribe-copy-reads
-use Rattle.transcriber.proofs.transcribe_normal.Reads as transcribe-normal-reads
+use Rattle.passes.proofs.transcribe_normal.Reads as transcribe-normal-reads
 
 -- once the print has been taken for a normalised text
 abbrev N : Type 0

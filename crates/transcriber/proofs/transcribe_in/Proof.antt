@@ -21,7 +21,7 @@ use Rattle.transcriber.proofs.transcribe_in.Tie as tie
 use Rattle.transcriber.proofs.transcribe_in.Reads as reads
 use Rattle.transcriber.proofs.transcribe_in.Lts as lts
 use Rattle.normal.proofs.normalise.Reads as normalise-reads
-use Rattle.transcriber.proofs.transcribe_normal.Reads as transcribe-normal-reads
+use Rattle.passes.proofs.transcribe_normal.Reads as transcribe-normal-reads
 
 -- once normalising has answered
 abbrev N : Type 0

@@ -2,7 +2,7 @@
 -- a code point is written as usual its word says both. The measure is how much of the text is left. Assumes nothing.
 use mathlib.Core.Path.{_≡_, sym, ap, _∙_, subst}
 use mathlib.Core.List.{List}
-use mathlib.Core.Logic.{⊎-elim}
+use mathlib.Core.Logic.{⊎-elim, inl, inr}
 use Prim.Native.Nat.{ℕ, _+_, _-_, _%_, _≤_, _<_}
 use native.Mathlib.Omega.{arith}
 use borrow.Author.Needs.{needs}
@@ -15,14 +15,15 @@ use Rattle.entries.specs.Entries.{entryOf, classIn, signIn, thenIn, markIn, usu
 use Rattle.turns.specs.Stages.{futureAt, deedOf, settledBy}
 use Rattle.turns.proofs.Machine.{settled-low}
 use Rattle.turns.proofs.Ahead.{future-plainly}
-use Rattle.transcriber.specs.Passes.{signBy, joined, measuredOf}
-use Rattle.transcriber.specs.declared.Measured.the-variants.{Cells, Refused}
-use Rattle.transcriber.proofs.Going.{held}
-use Rattle.transcriber.proofs.Drawing.{Mid, Passed, some-number, passed-none, passed-mark, not-passed, mark-small, act-is, passed-usual, went-deed, went-usual, mid-start, mid-broken, mid-fault, mid-on, mid-done, mid-open}
-use Rattle.transcriber.proofs.draw.Statement.{statement}
-use Rattle.transcriber.proofs.draw.Tie as tie
-use Rattle.transcriber.proofs.draw.Reads as reads
-use Rattle.transcriber.proofs.draw.Lts as lts
+use Rattle.writing.specs.Joined.{joined}
+use Rattle.passes.specs.Passes.{signBy, measuredOf}
+use Rattle.passes.specs.declared.Measured.the-variants.{Cells, Refused}
+use Rattle.passes.proofs.Going.{held}
+use Rattle.passes.proofs.Drawing.{Mid, Passed, some-number, passed-none, passed-mark, not-passed, mark-small, act-is, passed-usual, went-deed, went-usual, mid-start, mid-broken, mid-fault, mid-on, mid-done, mid-open}
+use Rattle.passes.proofs.draw.Statement.{statement}
+use Rattle.passes.proofs.draw.Tie as tie
+use Rattle.passes.proofs.draw.Reads as reads
+use Rattle.passes.proofs.draw.Lts as lts
 use Rattle.entries.proofs.class_in.Reads as class-in-reads
 use Rattle.entries.proofs.entry_of.Reads as entry-of-reads
 use Rattle.entries.proofs.is_usual.Reads as is-usual-reads
@@ -31,8 +32,8 @@ use Rattle.entries.proofs.sign.count_of.Reads as count-of-reads
 use Rattle.entries.proofs.sign_in.Reads as sign-in-reads
 use Rattle.entries.proofs.then_in.Reads as then-in-reads
 use Rattle.pairs.proofs.pairs_after.Reads as pairs-after-reads
-use Rattle.transcriber.proofs.fault_of.Reads as fault-of-reads
-use Rattle.transcriber.proofs.sign_of.Reads as sign-of-reads
+use Rattle.passes.proofs.fault_of.Reads as fault-of-reads
+use Rattle.passes.proofs.sign_of.Reads as sign-of-reads
 use Rattle.turns.proofs.deed_of.Reads as deed-of-reads
 use Rattle.turns.proofs.settled.Reads as settled-reads
 
@@ -263,20 +264,21 @@ loop-again c =
     let u = c .before in
     let l = at-u u in
     let t = text l in
-    ⊎-elim
-    (λ j. let e = sym (usual-told u) ∙ j .0 .taken in
-    mid-on castilian held (text l) (signs₀ l) (l .loop .signs) (l .loop .opened) (l .loop .state) (l .loop .n) (l .loop .i) (l .loop .inv) (inside u) (c .if1 .opened)
-    (passed-usual castilian held t (past l) (l .loop .i) (l .loop .state) (l .loop .inv .at) e (l .loop .opened) (l .loop .inv .few) (c .if1 .opened) (j .5))
-    (j .1 .result) (c .if1 .state) (j .2 .result)
-    (went-usual castilian held t (past l) (l .loop .i) (l .loop .state) (l .loop .inv .at) e (j .1 .result) (c .if1 .state)
-    (j .1 .ensures ∙ ap signIn (entry-is u)) (j .6 ∙ j .3 .ensures ∙ ap thenIn (entry-is u))) (j .2 .ensures .0) (c .if1 .signs) (c .if1 .n) (j .4) (j .7))
-    (λ j. let p : J = record { before = record { before = record { before = u; if1 = j .0 }; mark-in = j .1 }; if2 = j .2 } in
-    let d : D = record { before = record { before = record { before = p; class-in = j .3 }; deed-of = j .4 }; if3 = j .5 } in
-    mid-on castilian held (text l) (signs₀ l) (l .loop .signs) (l .loop .opened) (l .loop .state) (l .loop .n) (l .loop .i) (l .loop .inv) (inside u) (c .if1 .opened)
-    (subst (Passed castilian t (l .loop .opened) (l .loop .i)) (sym (j .11)) (passed p))
-    (j .8 .result) (c .if1 .state) (j .9 .result)
-    (went-deed castilian held t (past l) (l .loop .i) (l .loop .state) (l .loop .inv .at) (d .if3 .deed) (deed-told d) (j .6 .left) (j .8 .result) (c .if1 .state)
-    (j .8 .ensures ∙ ap (signBy (d .if3 .deed % 8)) (entry-is u)) (j .12)) (j .9 .ensures .0) (c .if1 .signs) (c .if1 .n) (j .10) (j .13)) (c .if1 .came)
+    elim (c .if1 .came) [
+      | inl j ↦ let e = sym (usual-told u) ∙ j .0 .taken in
+          mid-on castilian held (text l) (signs₀ l) (l .loop .signs) (l .loop .opened) (l .loop .state) (l .loop .n) (l .loop .i) (l .loop .inv) (inside u) (c .if1 .opened)
+          (passed-usual castilian held t (past l) (l .loop .i) (l .loop .state) (l .loop .inv .at) e (l .loop .opened) (l .loop .inv .few) (c .if1 .opened) (j .5))
+          (j .1 .result) (c .if1 .state) (j .2 .result)
+          (went-usual castilian held t (past l) (l .loop .i) (l .loop .state) (l .loop .inv .at) e (j .1 .result) (c .if1 .state)
+          (j .1 .ensures ∙ ap signIn (entry-is u)) (j .6 ∙ j .3 .ensures ∙ ap thenIn (entry-is u))) (j .2 .ensures .0) (c .if1 .signs) (c .if1 .n) (j .4) (j .7)
+      | inr j ↦ let p : J = record { before = record { before = record { before = u; if1 = j .0 }; mark-in = j .1 }; if2 = j .2 } in
+          let d : D = record { before = record { before = record { before = p; class-in = j .3 }; deed-of = j .4 }; if3 = j .5 } in
+          mid-on castilian held (text l) (signs₀ l) (l .loop .signs) (l .loop .opened) (l .loop .state) (l .loop .n) (l .loop .i) (l .loop .inv) (inside u) (c .if1 .opened)
+          (subst (Passed castilian t (l .loop .opened) (l .loop .i)) (sym (j .11)) (passed p))
+          (j .8 .result) (c .if1 .state) (j .9 .result)
+          (went-deed castilian held t (past l) (l .loop .i) (l .loop .state) (l .loop .inv .at) (d .if3 .deed) (deed-told d) (j .6 .left) (j .8 .result) (c .if1 .state)
+          (j .8 .ensures ∙ ap (signBy (d .if3 .deed % 8)) (entry-is u)) (j .12)) (j .9 .ensures .0) (c .if1 .signs) (c .if1 .n) (j .10) (j .13)
+    ]
 
 same-length-3 : tie.Need-same-length-3 Inv-loop μ-loop
 same-length-3 c = search needs

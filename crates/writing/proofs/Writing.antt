@@ -11,8 +11,8 @@ use Rattle.rules.specs.Cells.{Row}
 use Rattle.rows.specs.Laid.{laid}
 use Rattle.rows.proofs.Laid.{turn-room, turn-length, turn-row, turn-count, turn-end}
 use Rattle.entries.specs.SignWords.{cellsIn}
-use Rattle.transcriber.specs.Passes.{joined}
-use Rattle.transcriber.proofs.Joined.{joined-here, joined-end}
+use Rattle.writing.specs.Joined.{joined}
+use Rattle.writing.proofs.Joined.{joined-here, joined-end}
 
 -- what `row`, `n` and `i` are between two turns
 pub record Wid (signs row₀ row : List ℕ) (n i : ℕ) : Type 0 where

@@ -30,11 +30,12 @@ use Rattle.pairs.proofs.Pairing.{kind-small, mark-says, Means, pairs-mean, clos
 use Rattle.turns.specs.Acts as act
 use Rattle.turns.specs.Stages.{itemsFrom, futureAt, stageAt, deedOf, settledBy, actOf}
 use Rattle.turns.proofs.Machine.{stage-small, then-small, parted, faultless, never-paired, done-low}
-use Rattle.transcriber.specs.Passes.{signBy, joined, faultBy, shown, measuredOf, Drawn}
-use Rattle.transcriber.specs.declared.Answer.the-variants.{PairBroken}
-use Rattle.transcriber.specs.declared.Measured.the-variants.{Cells, Refused}
-use Rattle.transcriber.proofs.Joined.{joined-more}
-use Rattle.transcriber.proofs.Going.{Held, sortHere, next, ahead, outcomeHere, actHere, deed-is, usual-deed, state-after, cells-here, no-fault, row-here, verdict-here, row-end, verdict-end, row-start, verdict-start, judge-on}
+use Rattle.writing.specs.Joined.{joined}
+use Rattle.writing.proofs.Joined.{joined-more}
+use Rattle.passes.specs.Passes.{signBy, faultBy, shown, measuredOf, Drawn}
+use Rattle.passes.specs.declared.Answer.the-variants.{PairBroken}
+use Rattle.passes.specs.declared.Measured.the-variants.{Cells, Refused}
+use Rattle.passes.proofs.Going.{Held, sortHere, next, ahead, outcomeHere, actHere, deed-is, usual-deed, state-after, cells-here, no-fault, row-here, verdict-here, row-end, verdict-end, row-start, verdict-start, judge-on}
 
 -- what `signs`, `opened`, `state`, `n` and `i` are between two turns; the past is what the state stands for
 pub record Mid (tb : Table) (text signs₀ signs : List ℕ) (opened state n i : ℕ) : Type 0 where

@@ -3,12 +3,12 @@ use mathlib.Core.Path.{sym, ap, _∙_}
 use Prim.Native.Nat.{ℕ}
 use Rattle.entries.proofs.Keys.{chosen-rest}
 use Rattle.entries.specs.SignWords.{signOfOne, signOfTwo, signOfThree}
-use Rattle.transcriber.specs.Passes.{noCell, waysOf, signBy}
+use Rattle.passes.specs.Passes.{noCell, waysOf, signBy}
 use borrow.Author.Needs.{needs}
-use Rattle.transcriber.proofs.sign_of.Statement.{statement}
-use Rattle.transcriber.proofs.sign_of.Tie as tie
-use Rattle.transcriber.proofs.sign_of.Reads as reads
-use Rattle.transcriber.proofs.sign_of.Lts as lts
+use Rattle.passes.proofs.sign_of.Statement.{statement}
+use Rattle.passes.proofs.sign_of.Tie as tie
+use Rattle.passes.proofs.sign_of.Reads as reads
+use Rattle.passes.proofs.sign_of.Lts as lts
 use Rattle.entries.proofs.first_in.Reads as first-in-reads
 use Rattle.entries.proofs.lower_in.Reads as lower-in-reads
 use Rattle.entries.proofs.sign.one_cell.Reads as one-cell-reads

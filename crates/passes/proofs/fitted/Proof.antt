@@ -1,13 +1,13 @@
 -- `fitted`: n is the count of the signs' cells, so where they fit `write` may be asked. Assumes nothing.
 use mathlib.Core.Path.{sym, _∙_}
-use Rattle.transcriber.specs.Passes.{joined}
-use Rattle.transcriber.proofs.Answering.{cramped, fitting}
+use Rattle.writing.specs.Joined.{joined}
+use Rattle.passes.proofs.Fitting.{cramped, fitting}
 use borrow.Author.Needs.{needs}
-use Rattle.transcriber.proofs.fitted.Statement.{statement}
-use Rattle.transcriber.proofs.fitted.Tie as tie
-use Rattle.transcriber.proofs.fitted.Reads as reads
-use Rattle.transcriber.proofs.fitted.Lts as lts
-use Rattle.transcriber.proofs.write.Reads as write-reads
+use Rattle.passes.proofs.fitted.Statement.{statement}
+use Rattle.passes.proofs.fitted.Tie as tie
+use Rattle.passes.proofs.fitted.Reads as reads
+use Rattle.passes.proofs.fitted.Lts as lts
+use Rattle.writing.proofs.write.Reads as write-reads
 
 returns : tie.Need-returns
 returns c =

@@ -7,7 +7,7 @@ use lib.ListN.{length, take, drop, set, getD, drop-of-length-le}
 use lib.Seq.{drop-cons, take-suc-set}
 use Rattle.rules.specs.Cells.{Row}
 use Rattle.entries.specs.SignWords.{cellsIn}
-use Rattle.transcriber.specs.Passes.{joined}
+use Rattle.writing.specs.Joined.{joined}
 
 joined-append : (ss us : List ℕ) → joined (ss ++ us) ≡ joined ss ++ joined us
 joined-append [] us = refl

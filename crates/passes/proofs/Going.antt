@@ -31,7 +31,7 @@ use Rattle.turns.specs.Acts as act
 use Rattle.turns.specs.Stages.{itemsFrom, futureAt, stageAt, deedOf, settledBy, wayOf, silentAs, actOf}
 use Rattle.turns.proofs.Ahead.{zero-unlisted, future-step}
 use Rattle.turns.proofs.Machine.{turn-is, usual-is, stage-small, wayNumber, faultless, done-is, done-low}
-use Rattle.transcriber.specs.Passes.{signBy, cellsBy}
+use Rattle.passes.specs.Passes.{signBy, cellsBy}
 
 -- THE CELLS. Which classes a way is for; the rules give it to no other.
 allowed : Way → Class → Bool

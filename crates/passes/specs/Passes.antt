@@ -1,7 +1,7 @@
--- What the inner functions promise: the sign of a word by its way; the cells of signs; what the first pass finds; the answer to a normalised text.
--- Assumes nothing.
-use mathlib.Core.Bool.{Bool, true, false, cond}
-use mathlib.Core.List.{List, [], _∷_, _++_}
+-- What the passes over a text promise: the sign of a word by its way; what the first pass finds; the answer to a normalised text. Not here: what the second
+-- pass writes (`Joined` of the crate `writing`). Assumes nothing.
+use mathlib.Core.Bool.{cond}
+use mathlib.Core.List.{List, [], _∷_}
 use mathlib.Core.Path.{_≡_}
 use Prim.Native.Nat.{ℕ}
 use lib.Dec.{leb}
@@ -16,10 +16,11 @@ use Rattle.entries.specs.SignWords.{cellsIn, signOfOne, signOfTwo, signOfThree}
 use Rattle.entries.specs.Entries.{signIn, firstIn, lowerIn}
 use Rattle.turns.specs.Acts as act
 use Rattle.rows.specs.Laid.{laid}
-use Rattle.transcriber.specs.declared.Answer.{Answer}
-use Rattle.transcriber.specs.declared.Answer.the-variants.{Done, TooLong, NoSign, PairBroken, OutsideForm, SharesCells, NeedsRoom}
-use Rattle.transcriber.specs.declared.Measured.{Measured}
-use Rattle.transcriber.specs.declared.Measured.the-variants.{Cells, Refused}
+use Rattle.writing.specs.Joined.{joined}
+use Rattle.passes.specs.declared.Answer.{Answer}
+use Rattle.passes.specs.declared.Answer.the-variants.{Done, NoSign, PairBroken, OutsideForm, SharesCells, NeedsRoom}
+use Rattle.passes.specs.declared.Measured.{Measured}
+use Rattle.passes.specs.declared.Measured.the-variants.{Cells, Refused}
 
 -- THE SIGN of a word, by its way of writing: the cells before its own, and its own or the lower digit's
 abbrev dots46 : ℕ
@@ -48,11 +49,6 @@ signBy w e = choose (waysOf e) w noCell
 abbrev pub cellsBy : ℕ → ℕ → Row
 cellsBy w e = cellsIn (signBy w e)
 
--- the cells of signs, one behind another
-abbrev pub joined : List ℕ → Row
-joined [] = []
-joined (s ∷ ss) = cellsIn s ++ joined ss
-
 -- THE FIRST PASS
 abbrev pub faults : ℕ → List (ℕ × Answer)
 faults i = (act.noSign, NoSign i) ∷ (act.outsideForm, OutsideForm i) ∷ []
@@ -76,7 +72,7 @@ abbrev pub Drawn : Measured → Table → Text → List ℕ → Type 0
 Drawn (Cells n) tb t ss = joined ss ≡ whole-row tb t
 Drawn (Refused a) tb t ss = Unit
 
--- THE ANSWER to what the first pass finds, and to a normalised text, and what the lent row then holds
+-- THE ANSWER to what the first pass finds, and what the lent row then holds
 abbrev pub fittedBy : Measured → ℕ → Answer
 fittedBy (Cells n) room = cond (leb n room) (Done n) (NeedsRoom n)
 fittedBy (Refused a) room = a
@@ -85,18 +81,9 @@ abbrev pub writtenBy : Measured → Row → List ℕ → List ℕ
 writtenBy (Cells n) r lent = cond (leb n (length lent)) (laid r lent) lent
 writtenBy (Refused a) r lent = lent
 
+-- the same of a normalised text
 unfoldable pub answerOf : Table → Text → ℕ → Answer
 answerOf tb t room = fittedBy (measuredOf tb t) room
 
 unfoldable pub outOf : Table → Text → List ℕ → List ℕ
 outOf tb t lent = writtenBy (measuredOf tb t) (whole-row tb t) lent
-
--- is it the answer to a text that the rules accept?
-abbrev pub acceptedBy : Answer → Bool
-acceptedBy (Done n) = true
-acceptedBy (TooLong n) = false
-acceptedBy (NoSign n) = false
-acceptedBy (PairBroken n) = false
-acceptedBy (OutsideForm n) = false
-acceptedBy (SharesCells n) = false
-acceptedBy (NeedsRoom n) = true

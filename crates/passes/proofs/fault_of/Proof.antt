@@ -1,12 +1,12 @@
 -- `fault_of`: a fault that is none of the first two is the third. Assumes nothing.
 use mathlib.Core.Path.{sym}
-use Rattle.transcriber.specs.Passes.{faults, faultBy}
-use Rattle.transcriber.specs.declared.Answer.the-variants.{SharesCells}
+use Rattle.passes.specs.Passes.{faults, faultBy}
+use Rattle.passes.specs.declared.Answer.the-variants.{SharesCells}
 use Rattle.entries.proofs.Keys.{chosen-rest}
-use Rattle.transcriber.proofs.fault_of.Statement.{statement}
-use Rattle.transcriber.proofs.fault_of.Tie as tie
-use Rattle.transcriber.proofs.fault_of.Reads as reads
-use Rattle.transcriber.proofs.fault_of.Lts as lts
+use Rattle.passes.proofs.fault_of.Statement.{statement}
+use Rattle.passes.proofs.fault_of.Tie as tie
+use Rattle.passes.proofs.fault_of.Reads as reads
+use Rattle.passes.proofs.fault_of.Lts as lts
 
 returns : tie.Need-returns
 unfolding faultBy

@@ -7,10 +7,10 @@ use Rattle.entries.specs.SignWords.{countOf, cellsIn}
 use Rattle.entries.proofs.SignWords.{own-none, own-one, own-two, own-three, count-three, cells-length}
 use Rattle.rows.proofs.Laid.{wrote-none, wrote-one, wrote-two, wrote-three}
 use borrow.Author.Needs.{needs}
-use Rattle.transcriber.proofs.put_cells.Statement.{statement}
-use Rattle.transcriber.proofs.put_cells.Tie as tie
-use Rattle.transcriber.proofs.put_cells.Reads as reads
-use Rattle.transcriber.proofs.put_cells.Lts as lts
+use Rattle.writing.proofs.put_cells.Statement.{statement}
+use Rattle.writing.proofs.put_cells.Tie as tie
+use Rattle.writing.proofs.put_cells.Reads as reads
+use Rattle.writing.proofs.put_cells.Lts as lts
 use Rattle.entries.proofs.sign.count_of.Reads as count-of-reads
 use Rattle.entries.proofs.sign.first_of.Reads as first-of-reads
 use Rattle.entries.proofs.sign.second_of.Reads as second-of-reads

@@ -7,17 +7,18 @@ use lib.Seq.{length-take-le}
 use Rattle.rules.specs.Castilian.{castilian}
 use Rattle.rules.proofs.Rows.{whole-row}
 use Rattle.rules.proofs.Plain.{plainly}
-use Rattle.transcriber.specs.Passes.{joined, measuredOf, Drawn}
-use Rattle.transcriber.specs.declared.Measured.{Measured}
-use Rattle.transcriber.specs.declared.Measured.the-variants.{Cells}
-use Rattle.transcriber.proofs.Answering.{measured-cells, measured-fitted, measured-refused}
+use Rattle.passes.specs.Passes.{measuredOf, Drawn}
+use Rattle.writing.specs.Joined.{joined}
+use Rattle.passes.specs.declared.Measured.{Measured}
+use Rattle.passes.specs.declared.Measured.the-variants.{Cells}
+use Rattle.passes.proofs.Fitting.{measured-cells, measured-fitted, measured-refused}
 use borrow.Author.Needs.{needs}
-use Rattle.transcriber.proofs.transcribe_by.Statement.{statement}
-use Rattle.transcriber.proofs.transcribe_by.Tie as tie
-use Rattle.transcriber.proofs.transcribe_by.Reads as reads
-use Rattle.transcriber.proofs.transcribe_by.Lts as lts
-use Rattle.transcriber.proofs.draw.Reads as draw-reads
-use Rattle.transcriber.proofs.fitted.Reads as fitted-reads
+use Rattle.passes.proofs.transcribe_by.Statement.{statement}
+use Rattle.passes.proofs.transcribe_by.Tie as tie
+use Rattle.passes.proofs.transcribe_by.Reads as reads
+use Rattle.passes.proofs.transcribe_by.Lts as lts
+use Rattle.passes.proofs.draw.Reads as draw-reads
+use Rattle.passes.proofs.fitted.Reads as fitted-reads
 
 -- once the signs are drawn
 abbrev D : Type 0

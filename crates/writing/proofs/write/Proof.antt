@@ -4,13 +4,13 @@ use mathlib.Core.List.{List}
 use Prim.Native.Nat.{ℕ, _-_, _≤_, _<_}
 use native.Mathlib.Omega.{arith}
 use lib.ListN.{length}
-use Rattle.transcriber.proofs.Writing.{Wid, wid-start, wid-room, wid-few, wid-on, wid-end}
+use Rattle.writing.proofs.Writing.{Wid, wid-start, wid-room, wid-few, wid-on, wid-end}
 use borrow.Author.Needs.{needs}
-use Rattle.transcriber.proofs.write.Statement.{statement}
-use Rattle.transcriber.proofs.write.Tie as tie
-use Rattle.transcriber.proofs.write.Reads as reads
-use Rattle.transcriber.proofs.write.Lts as lts
-use Rattle.transcriber.proofs.put_cells.Reads as put-cells-reads
+use Rattle.writing.proofs.write.Statement.{statement}
+use Rattle.writing.proofs.write.Tie as tie
+use Rattle.writing.proofs.write.Reads as reads
+use Rattle.writing.proofs.write.Lts as lts
+use Rattle.writing.proofs.put_cells.Reads as put-cells-reads
 
 abbrev Inv-loop : tie.InvT-loop
 Inv-loop signs row₀ n₀ place₀ row n place = Wid signs row₀ row n place
