@@ -1,24 +1,22 @@
 -- What one code point becomes: the laws that the functions of one code point cite. º or ª after a digit gets its full stop (`stop-before`);
 -- any other code point becomes what the list of replacements says (`no-stop`), and that is three full stops (`three-stops`) or one code point
--- (`one`): each replacement of the list is tested for it. A code point that is in no arm of the look-up is kept (`rest-same`). What begins
--- with another code point does not begin with this one, so a code point is told kept or not by the first of what it becomes (`told`).
--- Assumes nothing.
-use mathlib.Core.Path.{_≡_, refl, sym, _∙_, ap, subst}
+-- (`one`): each replacement of the list is tested for it. A code point that is in no arm of the look-up is kept (`rest-same`). Assumes
+-- nothing.
+use mathlib.Core.Path.{_≡_, sym, _∙_, ap}
 use mathlib.Core.Logic.{⊎-elim}
 use mathlib.Core.Bool.{Bool, true, false, _&&_, _||_, not}
-use mathlib.Core.List.{List, [], _∷_, _++_}
+use mathlib.Core.List.{List, [], _∷_}
 use Prim.Native.Nat.{ℕ}
 use Prim.Native.Char.{Char, code}
 use Prim.Native.String.{String}
 use native.Mathlib.Omega.{arith}
 use lib.Dec.{T, eqb, eqb→eq}
 use lib.ListN.{length, drop}
-use borrow.Author.Tests.{ne-eqb, eqb-true, eqb-false}
+use borrow.Author.Tests.{ne-eqb}
 use Rattle.rules.specs.Cells.{Text, print}
 use Rattle.rules.specs.Normal.{replacements, replacedBy, isOrdinalPoint, becomes}
-use Rattle.rules.proofs.Finite.{every, and-right, and-both}
+use Rattle.rules.proofs.Finite.{every, and-both}
 use Rattle.rules.proofs.Normal.{kept, kept-same, kept-or}
-use Rattle.normal.specs.Same.{TellsKept}
 
 stops : (c : ℕ) → c ≡ code "…" → replacedBy replacements c ≡ print "..."
 unfolding replacements replacedBy
@@ -68,25 +66,3 @@ rest-same c l h =
     kept-same replacements c
     (and-both (not (eqb (code "…") c)) (kept (drop 1 replacements) c) (rw (ne-eqb (code "…") c (λ e. ne (sym e))) tt)
     (others-kept (Unit {0}) (drop 1 replacements) c h .1))
-
--- kept or not
-module _ (d : Bool) (c : ℕ) where
-  pub changed : (k : ℕ) (w : Text) → becomes d c ≡ k ∷ w → (k ≡ c → ⊥) → TellsKept false d c
-  changed k w e ne t u h = ne (head (rw e at h))
-    where
-      head : k ∷ (w ++ t) ≡ c ∷ u → k ≡ c
-      head q = cc
-
-  pub told : (k : ℕ) → becomes d c ≡ k ∷ [] → TellsKept (eqb k c) d c
-  told k e = go (eqb k c) refl
-    where
-      go : (b : Bool) → eqb k c ≡ b → TellsKept b d c
-      go true q = e ∙ ap (λ (x : ℕ). x ∷ []) (eqb-true k c q)
-      go false q = changed k [] e (eqb-false k c q)
-
-  -- the full stop is no ordinal
-  pub stop-changes : (r : Bool) → r ≡ (d && isOrdinalPoint c) → r ≡ true → TellsKept false d c
-  unfolding isOrdinalPoint
-  stop-changes r tells e =
-      changed (code ".") (c ∷ []) (stop-before d c r tells e)
-      (λ q. absurd (subst (λ (k : ℕ). T (isOrdinalPoint k)) (sym q) (and-right d (isOrdinalPoint c) (rw (sym tells ∙ e) tt))))

@@ -1,5 +1,4 @@
 pub mod Becoming
-pub mod Turns
 pub mod Counts
+pub mod Turns
 pub mod Lengths
-pub mod Unique

@@ -1,3 +1,2 @@
-pub mod Same
 pub mod Counts
 pub mod Copies

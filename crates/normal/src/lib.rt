@@ -1,6 +1,6 @@
-// Normalised print (paper 01, "Normalised print"): its length, whether a print is normal already, and the copy that is.
+// Normalised print (paper 01, "Normalised print"): its length, and a normalised copy.
 // A new replacement by one code point is a constant and an arm of `replacement` here, in the order of the list, and a line of
-// crates/rules/specs/Normal.antt. Only … becomes more than one: `ELLIPSIS_ADDS`, `put_points` and `is_kept` say so.
+// crates/rules/specs/Normal.antt. Only … becomes more than one: `ELLIPSIS_ADDS` and `put_points` say so.
 ghost use mathlib.Core.Path.{_≡_};
 ghost use mathlib.Core.Bool.{_&&_};
 ghost use mathlib.Core.List.{[], _∷_};
@@ -11,7 +11,6 @@ ghost use Rattle.rules.specs.Normal.{replacements, replacedBy, isDigitPoint, is
 ghost use Rattle.rules.specs.Refusals.{reported};
 ghost use Rattle.normal.specs.Counts.{greatestCount, ellipsesIn, stopsIn};
 ghost use Rattle.normal.specs.Copies.{normalisedOf, copyOf};
-ghost use Rattle.normal.specs.Same.{TellsNormal, TellsKept};
 
 // The code points that normalising knows.
 const FULL_STOP: u32 = 0x2e; // .
@@ -158,36 +157,6 @@ pub fn normal_length(print: &[u32]) -> usize
     } else {
         GREATEST_REPORTED
     }
-}
-
-// Does normalising leave this code point as it is?
-fn is_kept(after_digit: bool, point: u32) -> bool
-    ensures { λ r. ⌜ TellsKept r «after_digit» point ⌝ }
-{
-    if gets_stop(after_digit, point) {
-        return false;
-    }
-    if point == ELLIPSIS {
-        return false;
-    }
-    replacement(point) == point
-}
-
-// Is the print normal already?
-pub fn is_normal(print: &[u32]) -> bool
-    ensures { λ r. ⌜ TellsNormal r (now (print .entry)) ⌝ }
-{
-    let mut after_digit = false;
-    let mut i: usize = 0;
-    while i < print.len() {
-        let point = print[i];
-        if !is_kept(after_digit, point) {
-            return false;
-        }
-        after_digit = is_digit(point);
-        i += 1;
-    }
-    true
 }
 
 // Writes the normalised print from the first element on: what each code point becomes goes to its own stretch. The answer is its length.

@@ -1,12 +1,13 @@
 -- Print that is taken code point by code point, without a copy. Of the code points that normalising replaces, “ ” ‹ › each become one other: `oneFor`
 -- is that one, and any other code point itself (… too, which becomes three). `plainly` takes each code point of a print so. Normalising it gives what
--- normalising the print gives (`normal-plainly`), and what is normal has none of the four (`plainly-normal`). No sentence of the paper: a device of the
--- code, which looks “ up as «. A law about `oneFor` is shown at each replacement of the list (`one-law`). Assumes nothing.
+-- normalising the print gives (`normal-plainly`). It is what normalising gives where that makes the print no longer (`plainly-no-longer`), and so what is
+-- normal has none of the four (`plainly-normal`). No sentence of the paper: a device of the code, which looks “ up as «. A law about `oneFor` is shown at
+-- each replacement of the list (`one-law`). Assumes nothing.
 use mathlib.Core.Path.{_≡_, refl, sym, _∙_, ap, subst}
 use mathlib.Core.Logic.{_⊎_, inl, inr, ⊎-elim}
 use mathlib.Core.Bool.{Bool, true, false, _&&_, _||_, not, cond}
 use mathlib.Core.List.{List, [], _∷_, _++_, map}
-use Prim.Native.Nat.{ℕ, zero, suc, _≤_}
+use Prim.Native.Nat.{ℕ, zero, suc, _+_}
 use Prim.Native.Char.{code}
 use native.Mathlib.Omega.{arith}
 use lib.Dec.{T, eqb, eqb→eq}
@@ -104,30 +105,35 @@ pub normal-plainly : (p : Text) → normalOf (plainly p) ≡ normalOf p
 unfolding normalOf
 normal-plainly p = plainly-after false p
 
--- WHAT IS NORMAL. What a code point becomes, and behind it text that is no shorter than the rest, is the code point and the rest: then it becomes itself.
-single : (w v t : Text) (c : ℕ) → w ++ v ≡ c ∷ t → length t ≤ length v → 1 ≤ length w → (w ≡ c ∷ []) × (v ≡ t)
-single [] v t c e l some = absurd (omega arith)
-single (k ∷ []) v t c e l some =
-    let a : k ≡ c = cc in
-    let b : v ≡ t = cc in
-    (ap (λ (x : ℕ). x ∷ []) a, b)
-single (k ∷ j ∷ w) v t c e l some = absurd (omega (arith, l, ap length e, length-append w v))
+-- WHAT NORMALISING MAKES NO LONGER. Each code point becomes one at least, so there each becomes one alone, which is the one for it.
+one-alone : (w : Text) (c : ℕ) → length w ≡ 1 → w ≡ alone w c ∷ []
+one-alone [] c e = absurd (omega arith)
+one-alone (k ∷ []) c e = refl
+one-alone (k ∷ j ∷ w) c e = absurd (omega arith)
 
-itself-of : (d : Bool) (c : ℕ) → becomes d c ≡ c ∷ [] → oneFor c ≡ c
-itself-of d c = go (d && isOrdinalPoint c)
+becomes-alone : (d : Bool) (c : ℕ) → length (becomes d c) ≡ 1 → becomes d c ≡ oneFor c ∷ []
+unfolding oneFor
+becomes-alone d c = go (d && isOrdinalPoint c)
   where
-    go : (b : Bool) → cond b (code "." ∷ c ∷ []) (replacedBy replacements c) ≡ c ∷ [] → oneFor c ≡ c
-    go true e = absurd (let z : _≡_ {A = ℕ} 2 1 = ap length e in omega arith)
-    go false e = becomes-itself c e
+    go : (b : Bool) → length (cond b (code "." ∷ c ∷ []) (replacedBy replacements c)) ≡ 1
+        → cond b (code "." ∷ c ∷ []) (replacedBy replacements c) ≡ alone (replacedBy replacements c) c ∷ []
+    go true e = absurd (omega arith)
+    go false e = one-alone (replacedBy replacements c) c e
 
-normal-after : (d : Bool) (p : Text) → normalAfter d p ≡ p → plainly p ≡ p
+no-longer-after : (d : Bool) (p : Text) → length (normalAfter d p) ≡ length p → normalAfter d p ≡ plainly p
 unfolding normalAfter plainly
-normal-after d [] e = refl
-normal-after d (c ∷ p) e =
-    let s : (becomes d c ≡ c ∷ []) × (normalAfter (isDigitPoint c) p ≡ p) =
-    single (becomes d c) (normalAfter (isDigitPoint c) p) p c e (longer-after (isDigitPoint c) p) (some-becomes d c) in
-    ap (λ (x : ℕ). x ∷ plainly p) (itself-of d c (s .0)) ∙ ap (λ (w : Text). c ∷ w) (normal-after (isDigitPoint c) p (s .1))
+no-longer-after d [] e = refl
+no-longer-after d (c ∷ p) e =
+    let rest : Text = normalAfter (isDigitPoint c) p in
+    let sum : length (becomes d c) + length rest ≡ suc (length p) = sym (length-append (becomes d c) rest) ∙ e in
+    let one : length (becomes d c) ≡ 1 = omega (arith, some-becomes d c, longer-after (isDigitPoint c) p) in
+    let same : length rest ≡ length p = omega (arith, one) in
+    ap (λ (w : Text). w ++ rest) (becomes-alone d c one) ∙ ap (λ (w : Text). oneFor c ∷ w) (no-longer-after (isDigitPoint c) p same)
 
-pub plainly-normal : (p : Text) → normalOf p ≡ p → plainly p ≡ p
+pub plainly-no-longer : (p : Text) → length (normalOf p) ≡ length p → plainly p ≡ normalOf p
 unfolding normalOf
-plainly-normal p e = normal-after false p e
+plainly-no-longer p e = sym (no-longer-after false p e)
+
+-- what is normal
+pub plainly-normal : (p : Text) → normalOf p ≡ p → plainly p ≡ p
+plainly-normal p e = plainly-no-longer p (ap length e) ∙ e

@@ -31,7 +31,7 @@ fn transcribe_in(print: &[u32], text: &mut [u32], row: &mut [u8]) -> Answer
     }
 }
 
-// A print that normalising changes: through a copy, which has room for the longest text, or for the most that a short print becomes.
+// A print that normalising makes longer: through a copy, which has room for the longest text, or for the most that a short print becomes.
 fn transcribe_copy(print: &[u32], row: &mut [u8]) -> Answer
     ensures { λ r. ⌜ Transcribed castilian (now (print .entry)) (now (row .entry)) r (now (row .exit)) ⌝ }
 {
@@ -59,7 +59,8 @@ fn accepts(answer: Answer) -> bool
 }
 
 // Print to cells: the answer of the rules for any print and any lent row, which then holds the cells from its first element on and is otherwise
-// as it was. What the rules accept, with « for “, is normal so; a copy is asked for only where they refuse.
+// as it was. What the rules accept, with « for “, is normal so; a copy is made only where they refuse and
+// normalising makes the print longer.
 // Two wrong programs that the promise shuts out: one that refuses all, and one that leaves a cell behind where it refuses.
 pub fn transcribe(print: &[u32], row: &mut [u8]) -> Answer
     ensures { λ r. ⌜ Transcribed castilian (now (print .entry)) (now (row .entry)) r (now (row .exit)) ⌝ }
@@ -71,7 +72,8 @@ pub fn transcribe(print: &[u32], row: &mut [u8]) -> Answer
     if accepts(answer) {
         return answer;
     }
-    if normal::is_normal(print) {
+    // Of each code point normalising makes one at least. So where it makes no more in all, each is kept or becomes one other, and the passes have taken it so.
+    if normal::normal_length(print) == print.len() {
         return answer;
     }
     transcribe_copy(print, row)

@@ -1,6 +1,6 @@
--- `transcribe`: a print that is too long is longer still when normalised; one that the rules accept, with « for “, is normal so, and that is its
--- normalised text (`plain-is`); any other is refused as it is, where it is normal, and otherwise goes through the copy, to a row that is as it was.
--- Assumes nothing.
+-- `transcribe`: a print that is too long is longer still when normalised. Any other is answered as it is, with « for “, where that is its normalised text
+-- (`same`): where the rules accept it so, since what they accept is normal; and where normalising makes it no longer (`plainly-no-longer`). What is left was
+-- refused, and goes through the copy, to a row that is as it was. Assumes nothing.
 use mathlib.Core.Path.{_≡_, sym, ap, _∙_, subst}
 use mathlib.Core.Bool.{Bool, true, false}
 use mathlib.Core.List.{List}
@@ -11,10 +11,9 @@ use Rattle.rules.specs.Castilian.{castilian}
 use Rattle.rules.specs.Normal.{normalOf}
 use Rattle.rules.specs.Refusals.{longestText}
 use Rattle.rules.proofs.Normal.{normal-longer}
-use Rattle.rules.proofs.Plain.{plainly, plainly-length, normal-plainly, plainly-normal}
+use Rattle.rules.proofs.Plain.{plainly, plainly-length, normal-plainly, plainly-no-longer}
 use Rattle.rules.proofs.Rows.{whole-row, good-reads}
 use Rattle.rules.proofs.Demands.{accepted-is-normal}
-use Rattle.normal.specs.Same.{TellsNormal}
 use Rattle.transcriber.specs.Promise.{Transcribed}
 use Rattle.passes.specs.Passes.{answerOf}
 use Rattle.transcriber.specs.Answering.{acceptedBy}
@@ -24,7 +23,6 @@ use Rattle.transcriber.proofs.transcribe.Statement.{statement}
 use Rattle.transcriber.proofs.transcribe.Tie as tie
 use Rattle.transcriber.proofs.transcribe.Reads as reads
 use Rattle.transcriber.proofs.transcribe.Lts as lts
-use Rattle.normal.proofs.is_normal.Reads as is-normal-reads
 use Rattle.normal.proofs.normal_length.Reads as normal-length-reads
 use Rattle.transcriber.proofs.accepts.Reads as accepts-reads
 use Rattle.transcriber.proofs.transcribe_copy.Reads as transcribe-copy-reads
@@ -57,12 +55,11 @@ from-a a = a .before .before .before
 told : (a : A) (b : Bool) → a .accepts .result ≡ b → acceptedBy (answerOf castilian (text (from-a a)) (length (row (from-a a)))) ≡ b
 told a b e = ap acceptedBy (sym (from-a a .transcribe-normal .ensures .0)) ∙ sym (a .accepts .ensures) ∙ e
 
--- the answer to a print that is normal with « for “ is the promised one
-same : (n : N) → normalOf (text n) ≡ text n → Transcribed castilian (print n) (row n) (n .transcribe-normal .result) (n .transcribe-normal .last .1 .0)
+-- the answer to a print that is its normalised text, with « for “, is the promised one
+same : (n : N) → text n ≡ normalOf (print n) → Transcribed castilian (print n) (row n) (n .transcribe-normal .result) (n .transcribe-normal .last .1 .0)
 same n e =
-    let plain-is : text n ≡ normalOf (print n) = sym e ∙ normal-plainly (print n) in
     let short : length (print n) ≤ longestText = omega (arith, n .before .before .if1 .left) in
-    carried castilian (print n) (row n) (subst (λ (k : ℕ). k ≤ longestText) (sym (plainly-length (print n)) ∙ ap length plain-is) short) (text n) plain-is _ _
+    carried castilian (print n) (row n) (subst (λ (k : ℕ). k ≤ longestText) (sym (plainly-length (print n)) ∙ ap length e) short) (text n) e _ _
     (n .transcribe-normal .ensures)
 
 normal-length-requires : tie.Need-normal-length-requires
@@ -87,12 +84,13 @@ returns-2 : tie.Need-returns-2
 returns-2 c =
     let a = c .before in
     let n = from-a a in
-    same n
-    (accepted-is-normal (text n)
-    (whole-row castilian (text n), good-reads castilian (text n) (accepted-good castilian (text n) (row n) (told a true (c .if2 .taken)))))
+    let normal : normalOf (text n) ≡ text n =
+    accepted-is-normal (text n)
+    (whole-row castilian (text n), good-reads castilian (text n) (accepted-good castilian (text n) (row n) (told a true (c .if2 .taken)))) in
+    same n (sym normal ∙ normal-plainly (print n))
 
-is-normal-requires : tie.Need-is-normal-requires
-is-normal-requires c κs = search needs
+normal-length-requires-2 : tie.Need-normal-length-requires-2
+normal-length-requires-2 c κs = search needs
 
 same-length-2 : tie.Need-same-length-2
 same-length-2 c = search needs
@@ -101,8 +99,7 @@ returns-3 : tie.Need-returns-3
 returns-3 c =
     let i = c .before in
     let n = from-a (i .before .before) in
-    let e : normalOf (print n) ≡ print n = subst (λ (b : Bool). TellsNormal b (print n)) (c .if3 .taken) (i .is-normal .ensures) in
-    same n (normal-plainly (print n) ∙ e ∙ sym (plainly-normal (print n) e))
+    same n (plainly-no-longer (print n) (omega (arith, i .normal-length2 .ensures, c .if3 .taken, n .before .before .if1 .left)))
 
 transcribe-copy-requires : tie.Need-transcribe-copy-requires
 transcribe-copy-requires c κs = search needs
@@ -128,7 +125,7 @@ transcribe-spec =
     accepts-requires
     same-length
     returns-2
-    is-normal-requires
+    normal-length-requires-2
     same-length-2
     returns-3
     transcribe-copy-requires
