@@ -162,7 +162,7 @@ fn transcribe_by(text: &[u32], signs: &mut [u32], row: &mut [u8]) -> Answer
     }
 }
 
-// The same, with an array for the signs.
+// The same, with an array for the signs, so that a caller lends nothing but the text and the row.
 pub fn transcribe_normal(text: &[u32], row: &mut [u8]) -> Answer
     requires { ⌜ length (now text) ≤ longestText ⌝ }
     ensures { λ r. ⌜ (r ≡ answerOf castilian (plainly (now (text .entry))) (length (now (row .entry)))) × (now (row .exit) ≡ outOf castilian (plainly (now (text .entry))) (now (row .entry))) ⌝ }

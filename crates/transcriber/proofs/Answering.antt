@@ -18,14 +18,12 @@ use Rattle.rules.specs.Answers.{gives, refuses, PrintAnswer, print-refused, too
 use Rattle.rules.proofs.Finite.{le-or-lt}
 use Rattle.rules.proofs.Rows.{whole-row}
 use Rattle.rules.proofs.Answers.{choose-le, choose-lt, by-verdict, answered, short-answer}
-use Rattle.rows.specs.Laid.{laid}
 use Rattle.transcriber.specs.Promise.{Transcribed, done, refused}
 use Rattle.passes.specs.Passes.{shown, measuredOf, fittedBy, writtenBy, answerOf, outOf}
 use Rattle.transcriber.specs.Answering.{acceptedBy}
 use Rattle.passes.specs.declared.Answer.{Answer}
 use Rattle.passes.specs.declared.Answer.the-variants.{Done, TooLong, NoSign, PairBroken, OutsideForm, SharesCells, NeedsRoom}
 use Rattle.passes.specs.declared.Measured.{Measured}
-use Rattle.passes.specs.declared.Measured.the-variants.{Cells, Refused}
 
 -- an answer that accepts is to an accepted text; one that does not leaves the row as it was
 shown-good : (v : Verdict) (m room : ℕ) → acceptedBy (fittedBy (shown v m) room) ≡ true → v ≡ good
