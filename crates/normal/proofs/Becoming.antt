@@ -13,7 +13,7 @@ use native.Mathlib.Omega.{arith}
 use lib.Dec.{T, eqb, eqb→eq}
 use lib.ListN.{length, drop}
 use borrow.Author.Tests.{ne-eqb}
-use Rattle.rules.specs.Cells.{Text, print}
+use Rattle.rules.specs.Cells.{print}
 use Rattle.rules.specs.Normal.{replacements, replacedBy, isOrdinalPoint, becomes}
 use Rattle.rules.proofs.Finite.{every, and-both}
 use Rattle.rules.proofs.Normal.{kept, kept-same, kept-or}

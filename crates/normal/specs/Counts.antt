@@ -8,7 +8,7 @@ use lib.Dec.{eqb}
 use Rattle.rules.specs.Cells.{Text}
 use Rattle.rules.specs.Normal.{isDigitPoint, isOrdinalPoint}
 
--- the greatest number of 32 bits: no print that is as long at most has more of anything
+-- the greatest number of 32 bits: print of at most this length has no more of anything
 abbrev pub greatestCount : ℕ
 greatestCount = 4294967295
 

@@ -2,9 +2,9 @@
 -- count cannot make it wrap, and the count with that of what is still to come, behind the code point before `i`, is the whole count. The measure is what is
 -- left of the length. Assumes nothing.
 use mathlib.Core.Path.{_≡_, sym, ap, _∙_}
-use mathlib.Core.Bool.{Bool, true, false, _&&_}
+use mathlib.Core.Bool.{Bool, _&&_}
 use mathlib.Core.Logic.{⊎-elim}
-use Prim.Native.Nat.{ℕ, _+_, _-_, _≤_}
+use Prim.Native.Nat.{_+_, _-_, _≤_}
 use native.Mathlib.Omega.{arith}
 use lib.ListN.{length, drop, getD}
 use borrow.Author.Needs.{needs}
@@ -40,7 +40,9 @@ abbrev here : J → Bool
 here c = isDigitPoint (getD (print c) (L c .loop .i - 1) 0) && isOrdinalPoint (getD (print c) (L c .loop .i) 0)
 
 told : (c : J) → c .before .gets-stop .result ≡ here c
-told c = c .before .gets-stop .ensures ∙ ap (λ (d : Bool). d && isOrdinalPoint (getD (print c) (L c .loop .i) 0)) (c .before .before .before .is-digit .ensures)
+told c =
+    c .before .gets-stop .ensures
+    ∙ ap (λ (d : Bool). d && isOrdinalPoint (getD (print c) (L c .loop .i) 0)) (c .before .before .before .is-digit .ensures)
 
 counted : (c : J) → c .if1 .count ≡ L c .loop .count + oneIf (here c)
 counted c =
