@@ -33,22 +33,10 @@ use Rattle.turns.proofs.Machine.{stage-small, then-small, parted, faultless, ne
 use Rattle.writing.specs.Joined.{joined}
 use Rattle.writing.proofs.Joined.{joined-more}
 use Rattle.passes.specs.Passes.{signBy, faultBy, shown, measuredOf, Drawn}
+use Rattle.passes.specs.Middle.{Mid}
 use Rattle.passes.specs.declared.Answer.the-variants.{PairBroken}
 use Rattle.passes.specs.declared.Measured.the-variants.{Cells, Refused}
 use Rattle.passes.proofs.Going.{Held, sortHere, next, ahead, outcomeHere, actHere, deed-is, usual-deed, state-after, cells-here, no-fault, row-here, verdict-here, row-end, verdict-end, row-start, verdict-start, judge-on}
-
--- what `signs`, `opened`, `state`, `n` and `i` are between two turns; the past is what the state stands for
-pub record Mid (tb : Table) (text signs₀ signs : List ℕ) (opened state n i : ℕ) : Type 0 where
-  pub past : Past
-  pub inside : i ≤ length text
-  pub room : length text ≤ length signs
-  pub same : length signs ≡ length signs₀
-  pub few : opened < openStates
-  pub at : state ≡ stageAt past (futureAt tb text i)
-  pub low : n ≤ 3 * i
-  pub count : n ≡ length (joined (take i signs))
-  pub drawn : joined (take i signs) ++ row-on past (itemsFrom tb text i) ≡ whole-row tb text
-  pub whole : verdict-on past (opensOf opened) i (itemsFrom tb text i) ≡ verdictOf tb text
 
 -- the code point at place i may stand there, as far as pairs go, and then these kinds are open
 pub record Passed (tb : Table) (text : List ℕ) (opened i opens : ℕ) : Type 0 where

@@ -1,3 +1,4 @@
 pub mod Going
 pub mod Drawing
+pub mod Carrying
 pub mod Fitting

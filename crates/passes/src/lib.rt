@@ -1,7 +1,9 @@
 // A text to cells, in two passes: `draw` finds the sign of each code point and counts the cells, or finds the first refusal; `writing::write` writes the signs. So
 // nothing is written before all is known to fit, and no code point is looked up twice. “ ” ‹ › are looked up as what they become, « » ‘ ’ (`plainly`).
 // `transcribe_normal` is what other crates call; what the functions promise is specs/Passes.antt.
+use entries::CAPITAL;
 use entries::FREE;
+use entries::MIXED;
 use pairs::Pairs;
 use turns::ALL_CAPITALS;
 use turns::BARE;
@@ -15,12 +17,13 @@ use turns::QUESTIONS;
 use turns::SEPARATED;
 use turns::WAYS;
 ghost use mathlib.Core.Path.{_≡_};
-ghost use Prim.Native.Nat.{_≤_};
+ghost use Prim.Native.Nat.{_≤_, _*_};
 ghost use lib.ListN.{length, take};
 ghost use Rattle.rules.specs.Castilian.{castilian};
 ghost use Rattle.rules.specs.Refusals.{longestText};
 ghost use Rattle.rules.proofs.Plain.{plainly};
 ghost use Rattle.writing.specs.Joined.{joined};
+ghost use Rattle.passes.specs.Middle.{Carried};
 ghost use Rattle.passes.specs.Passes.{signBy, faultBy, measuredOf, Drawn, fittedBy, writtenBy, answerOf, outOf};
 
 // The answer to a print. `Done` has the count of cells written; any other is a refusal, and the lent row is then as it was. Paper 01's number and second
@@ -47,6 +50,15 @@ pub enum Measured {
     Refused(Answer),
 }
 
+// Where the first pass comes to before it has to ask: a place, the word of the code point there (NO_ENTRY at the end), the state there and the count of the cells
+// up to it. (So no code point is looked up twice.)
+pub struct Reached {
+    pub place: usize,
+    pub entry: u64,
+    pub state: usize,
+    pub cells: usize,
+}
+
 // "normalised text above 4,096 code points"
 const LONGEST_TEXT: usize = 4096;
 
@@ -61,6 +73,9 @@ const DOTS_46: u8 = 40;
 const DOTS_5: u8 = 16;
 
 const DOTS_3456: u8 = 60;
+
+// No code point's word: at the text's end.
+const NO_ENTRY: u64 = 0;
 
 // The sign of a code point that has a cell of its own and is written without: the full stop of an ordinal.
 const NO_CELL: u32 = 0;
@@ -92,8 +107,54 @@ fn fault_of(deed: usize, place: usize) -> Answer
     }
 }
 
+// The signs from a place on, as long as nothing is asked: of code points that are written as usual, with their own cells alone, and of capitals in a run that has
+// a small letter, each with a 46 of its own. Neither is a pair mark. (Most of a text is such, so it has a loop of its own.)
+fn draw_usual(text: &[u32], signs: &mut [u32], from: usize, begun: usize, counted: usize) -> Reached
+    requires { ⌜ (length (now text) ≤ longestText) × (length (now text) ≤ length (now signs)) × (from ≤ length (now text)) × (counted ≤ 3 * from) ⌝ }
+    ensures { λ r. ⌜ Carried castilian (plainly (now (text .entry))) (now (signs .entry)) (now (signs .exit)) begun counted from r ⌝ }
+{
+    let mut state: usize = begun;
+    let mut n: usize = counted;
+    let mut i: usize = from;
+    while i < text.len() {
+        let entry = entries::entry_of(text[i]);
+        if entries::is_usual(entry, state) {
+            let sign = entries::sign_in(entry);
+            signs[i] = sign;
+            n = n + entries::sign::count_of(sign);
+            state = entries::then_in(entry);
+        } else {
+            if state != MIXED {
+                return Reached {
+                    place: i,
+                    entry,
+                    state,
+                    cells: n,
+                };
+            }
+            if entries::class_in(entry) != CAPITAL {
+                return Reached {
+                    place: i,
+                    entry,
+                    state,
+                    cells: n,
+                };
+            }
+            signs[i] = sign_of(ONE_CAPITAL, entry);
+            n = n + 2;
+        }
+        i += 1;
+    }
+    Reached {
+        place: i,
+        entry: NO_ENTRY,
+        state,
+        cells: n,
+    }
+}
+
 // The first pass: the sign of each code point, which is its cells with their count, and the count of them all; or the first refusal. What follows a place
-// is read only where the table has a question. (A pair mark is never written as usual, so the usual way need not ask for one.)
+// is read only where the table has a question.
 fn draw(text: &[u32], signs: &mut [u32]) -> Measured
     requires { ⌜ (length (now text) ≤ longestText) × (length (now text) ≤ length (now signs)) ⌝ }
     ensures { λ r. ⌜ (r ≡ measuredOf castilian (plainly (now (text .entry)))) × Drawn r castilian (plainly (now (text .entry))) (take (length (now (text .entry))) (now (signs .exit))) ⌝ }
@@ -103,21 +164,19 @@ fn draw(text: &[u32], signs: &mut [u32]) -> Measured
     let mut n: usize = 0;
     let mut i: usize = 0;
     while i < text.len() {
-        let entry = entries::entry_of(text[i]);
-        if entries::is_usual(entry, state) {
-            let sign = entries::sign_in(entry);
-            signs[i] = sign;
-            n = n + entries::sign::count_of(sign);
-            state = entries::then_in(entry);
-        } else {
-            let mark = entries::mark_in(entry);
+        let reached = draw_usual(text, signs, i, state, n);
+        i = reached.place;
+        n = reached.cells;
+        state = reached.state;
+        if i < text.len() {
+            let mark = entries::mark_in(reached.entry);
             if mark != 0 {
                 let Pairs::Stand(now_open) = pairs::pairs_after(opened, mark) else {
                     return Measured::Refused(Answer::PairBroken(i));
                 };
                 opened = now_open;
             }
-            let told = turns::deed_of(state, entries::class_in(entry));
+            let told = turns::deed_of(state, entries::class_in(reached.entry));
             let deed = if told < QUESTIONS {
                 told
             } else {
@@ -126,12 +185,12 @@ fn draw(text: &[u32], signs: &mut [u32]) -> Measured
             if QUESTIONS <= deed {
                 return Measured::Refused(fault_of(deed, i));
             }
-            let sign = sign_of(deed % WAYS, entry);
+            let sign = sign_of(deed % WAYS, reached.entry);
             signs[i] = sign;
             n = n + entries::sign::count_of(sign);
             state = deed / WAYS;
+            i += 1;
         }
-        i += 1;
     }
     if opened == 0 {
         return Measured::Cells(n);

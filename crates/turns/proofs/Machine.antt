@@ -7,7 +7,7 @@ use Prim.Native.Nat.{ℕ, _+_, _*_, _/_, _%_, _^_, _<_}
 use native.Mathlib.Omega.{arith}
 use lib.Dec.{T, eqb, ltb, eqb→eq, ltb→lt}
 use borrow.Author.Tests.{ne-eqb}
-use Rattle.rules.specs.Sorts.{Class, classNumber}
+use Rattle.rules.specs.Sorts.{Class, classNumber, capital}
 use Rattle.rules.specs.Signs.{Way}
 use Rattle.rules.specs.Places.{lacksSign, breaksPair, outsideForm, sharesCells, Outcome, fault, silent, sign}
 use Rattle.rules.proofs.Finite.{below, at-below, every, every2, at2, every3, at3, implies, hold, holds, Hold}
@@ -60,6 +60,11 @@ settled-else d f a b c e = sym (rw (ne-eqb d act.beginsRun a, ne-eqb d act.begin
 
 pub settled-low : (d : ℕ) (f : Future) → d < act.questions → settledBy d f ≡ d
 settled-low d f l = sym (settled-else d f (λ e. omega (arith, l, e)) (λ e. omega (arith, l, e)) (λ e. omega (arith, l, e)) (λ e. omega (arith, l, e)))
+
+-- a capital in a run that has a small letter has a 46 of its own
+pub mixed-capital : (f : Future) → settledBy (deedOf state.mixed (classNumber capital)) f ≡ act.capitalAlone
+unfolding deedOf deeds
+mixed-capital f = settled-low act.capitalAlone f (omega arith)
 
 -- AS USUAL: in a state that is among the usual ones of a class, the deed is its own cells and the state that it leads to
 usual-right : ℕ → Class → Bool
