@@ -14,7 +14,7 @@ use Rattle.rules.proofs.Rows.{whole-row}
 use Rattle.entries.specs.Chosen.{choose}
 use Rattle.entries.specs.SignWords.{cellsIn, signOfOne, signOfTwo, signOfThree}
 use Rattle.entries.specs.Entries.{signIn, firstIn, lowerIn}
-use Rattle.turns.specs.Acts as act
+use Rattle.deeds.specs.Acts as act
 use Rattle.rows.specs.Laid.{laid}
 use Rattle.transcriber.specs.declared.Answer.{Answer}
 use Rattle.transcriber.specs.declared.Answer.the-variants.{Done, TooLong, NoSign, PairBroken, OutsideForm, SharesCells, NeedsRoom}

@@ -2,20 +2,20 @@
 // Two passes: `draw` finds the sign of each code point and counts the cells, or finds the first refusal; `write` writes the signs. So nothing is written
 // before all is known to fit, and no code point is looked up twice. “ ” ‹ › are looked up as what they become, « » ‘ ’ (`plainly`), so only print with …, or with
 // º or ª that lacks its full stop, is copied.
+use deeds::ALL_CAPITALS;
+use deeds::BARE;
+use deeds::FIRST_DIGIT;
+use deeds::FIRST_LOWER;
+use deeds::LOWER;
+use deeds::NO_SIGN;
+use deeds::ONE_CAPITAL;
+use deeds::OUTSIDE_FORM;
+use deeds::QUESTIONS;
+use deeds::SEPARATED;
+use deeds::WAYS;
 use entries::FREE;
 use normal::Normalised;
 use pairs::Pairs;
-use turns::ALL_CAPITALS;
-use turns::BARE;
-use turns::FIRST_DIGIT;
-use turns::FIRST_LOWER;
-use turns::LOWER;
-use turns::NO_SIGN;
-use turns::ONE_CAPITAL;
-use turns::OUTSIDE_FORM;
-use turns::QUESTIONS;
-use turns::SEPARATED;
-use turns::WAYS;
 ghost use mathlib.Core.Path.{_≡_};
 ghost use Prim.Native.Nat.{_≤_};
 ghost use lib.ListN.{length, take};
@@ -125,7 +125,7 @@ fn draw(text: &[u32], signs: &mut [u32]) -> Measured
                 };
                 opened = now_open;
             }
-            let told = turns::deed_of(state, entries::class_in(entry));
+            let told = deeds::deed_of(state, entries::class_in(entry));
             let deed = if told < QUESTIONS {
                 told
             } else {

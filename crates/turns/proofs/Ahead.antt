@@ -16,7 +16,7 @@ use Rattle.rules.proofs.States.{Future, rest}
 use Rattle.rules.proofs.Enumerations.{classes, futures}
 use Rattle.rules.proofs.Sides.{caps-next, mixed-next, form-next, digit-next, mark-next, look, future}
 use Rattle.rules.proofs.Plain.{oneFor, plainly, one-law, plainly-drop}
-use Rattle.turns.specs.Stages.{isSmall, isCapital, classAt, futureAt, endsForm}
+use Rattle.turns.specs.Ahead.{isSmall, isCapital, classAt, futureAt, endsForm}
 
 -- a fact of the future by what stands at the place and the future behind it
 seen : (g : Future → Bool) (h : Class → Future → Bool) → T (every2 classes futures (λ c f. Bool·beq (g (look c f)) (h c f))) → (c : Class) (f : Future)

@@ -12,8 +12,9 @@ use Rattle.rules.proofs.States.{Past}
 use Rattle.rules.proofs.Rows.{whole-row}
 use Rattle.rules.proofs.Plain.{plainly, plainly-length, plainly-at}
 use Rattle.entries.specs.Entries.{entryOf, classIn, signIn, thenIn, markIn, usualIn}
-use Rattle.turns.specs.Stages.{futureAt, deedOf, settledBy}
-use Rattle.turns.proofs.Machine.{settled-low}
+use Rattle.deeds.specs.Stages.{deedOf, settledBy}
+use Rattle.deeds.proofs.Machine.{settled-low}
+use Rattle.turns.specs.Ahead.{futureAt}
 use Rattle.turns.proofs.Ahead.{future-plainly}
 use Rattle.transcriber.specs.Passes.{signBy, joined, measuredOf}
 use Rattle.transcriber.specs.declared.Measured.the-variants.{Cells, Refused}
@@ -33,7 +34,7 @@ use Rattle.entries.proofs.then_in.Reads as then-in-reads
 use Rattle.pairs.proofs.pairs_after.Reads as pairs-after-reads
 use Rattle.transcriber.proofs.fault_of.Reads as fault-of-reads
 use Rattle.transcriber.proofs.sign_of.Reads as sign-of-reads
-use Rattle.turns.proofs.deed_of.Reads as deed-of-reads
+use Rattle.deeds.proofs.deed_of.Reads as deed-of-reads
 use Rattle.turns.proofs.settled.Reads as settled-reads
 
 abbrev Inv-loop : tie.InvT-loop

@@ -8,7 +8,7 @@ use Rattle.rules.specs.Cells.{dots}
 use Rattle.rules.specs.Sorts.{class, isDigitCell, _is_, aStop, aBar}
 use Rattle.rules.specs.Rows.{sortIn}
 use borrow.Author.Tests.{ne-eqb}
-use Rattle.turns.specs.Stages.{endsForm}
+use Rattle.turns.specs.Ahead.{endsForm}
 use Rattle.turns.proofs.Points.{told-above, known}
 use borrow.Author.Needs.{needs}
 use Rattle.turns.proofs.ends_form.Statement.{statement}

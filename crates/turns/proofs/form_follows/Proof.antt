@@ -6,7 +6,7 @@ use borrow.Author.Tests.{not-true, not-false}
 use lib.ListN.{length, getD}
 use Rattle.rules.specs.Castilian.{castilian}
 use Rattle.rules.proofs.Sides.{form-next}
-use Rattle.turns.specs.Stages.{futureAt, endsForm}
+use Rattle.turns.specs.Ahead.{futureAt, endsForm}
 use Rattle.turns.proofs.Ahead.{zero-unlisted, future-end, form-on, form-at}
 use Rattle.turns.proofs.form_follows.Statement.{statement}
 use Rattle.turns.proofs.form_follows.Tie as tie

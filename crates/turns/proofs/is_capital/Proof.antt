@@ -7,7 +7,7 @@ use Rattle.rules.specs.Cells.{dots}
 use Rattle.rules.specs.Sorts.{class, isDigitCell}
 use Rattle.rules.specs.Rows.{sortIn}
 use Rattle.entries.proofs.Keys.{rest-none}
-use Rattle.turns.specs.Stages.{isCapital}
+use Rattle.turns.specs.Ahead.{isCapital}
 use Rattle.turns.proofs.Points.{told, told-in, told-below, told-above, known}
 use Rattle.turns.proofs.is_capital.Statement.{statement}
 use Rattle.turns.proofs.is_capital.Tie as tie

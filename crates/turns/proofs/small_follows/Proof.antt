@@ -6,7 +6,7 @@ use borrow.Author.Tests.{not-true, not-false}
 use lib.ListN.{length}
 use Rattle.rules.specs.Castilian.{castilian}
 use Rattle.rules.proofs.Sides.{mixed-next}
-use Rattle.turns.specs.Stages.{futureAt}
+use Rattle.turns.specs.Ahead.{futureAt}
 use Rattle.turns.proofs.Ahead.{zero-unlisted, future-end, small-on, small-at}
 use Rattle.turns.proofs.small_follows.Statement.{statement}
 use Rattle.turns.proofs.small_follows.Tie as tie
