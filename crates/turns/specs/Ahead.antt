@@ -2,7 +2,7 @@
 -- (crates/rules/proofs/Sides.antt): inner promises may speak of them, the public one does not. Assumes nothing.
 use mathlib.Core.Bool.{Bool, false, _||_, cond}
 use mathlib.Core.List.{List}
-use Prim.Native.Nat.{ℕ}
+use Prim.Native.Nat.{ℕ, _+_}
 use lib.ListN.{drop, getD}
 use Rattle.rules.specs.Sorts.{Item, Table, Class, aToJ, otherSmall, capital, aStop, aBar, class, _is_, isDigit, isOrdinal}
 use Rattle.rules.specs.Rows.{sortIn, itemsIn}
@@ -24,7 +24,7 @@ itemsFrom tb text i = itemsIn tb (drop i text)
 unfoldable pub futureAt : Table → List ℕ → ℕ → Future
 futureAt tb text i = future (itemsFrom tb text i)
 
--- a code point, and the one after it, that a form goes on with behind its digits
-unfoldable pub endsForm : Table → ℕ → ℕ → Bool
-endsForm tb c d =
-    cond (class (sortIn tb c) is aStop) (isOrdinal (class (sortIn tb d))) (cond (class (sortIn tb c) is aBar) (isDigit (class (sortIn tb d))) false)
+-- a form goes on at a place, behind its digits: with a full stop and º or ª, or with U+2044 and a digit
+unfoldable pub endsForm : Table → List ℕ → ℕ → Bool
+endsForm tb text i =
+    cond (classAt tb text i is aStop) (isOrdinal (classAt tb text (i + 1))) (cond (classAt tb text i is aBar) (isDigit (classAt tb text (i + 1))) false)

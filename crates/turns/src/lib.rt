@@ -1,5 +1,6 @@
 // What follows a place of a text, as far as a question of the table (crates/deeds) asks for it, and the deed once what follows has decided.
 // Read ahead is only where a run, a number or a denominator begins and after a point of a number; a state carries what was found.
+// A loop finds a place and no more, and what stands there is read anew: so the caller's loop keeps no counter for it (docs/DECISIONS.md, 30).
 // A new question is an arm of `settled`. A new letter is also an arm of `is_capital` and of `is_small`.
 use deeds::BEGINS_NUMBER;
 use deeds::BEGINS_RUN;
@@ -20,7 +21,7 @@ ghost use Rattle.rules.specs.Sorts.{class, isDigit, isOrdinal};
 ghost use Rattle.rules.specs.Rows.{sortIn};
 ghost use Rattle.rules.proofs.Sides.{caps-next, mixed-next, form-next, digit-next};
 ghost use Rattle.deeds.specs.Stages.{settledBy};
-ghost use Rattle.turns.specs.Ahead.{isSmall, isCapital, futureAt, endsForm};
+ghost use Rattle.turns.specs.Ahead.{isSmall, isCapital, classAt, futureAt, endsForm};
 
 // The code points that reading ahead knows.
 const DIGIT_0: u32 = 0x30; // 0
@@ -62,11 +63,14 @@ fn is_ordinal(point: u32) -> bool
     }
 }
 
+// A to Z comes first: of most capitals nothing more is asked.
 fn is_capital(point: u32) -> bool
     ensures { λ r. ⌜ r ≡ isCapital (class (sortIn castilian point)) ⌝ }
 {
+    if CAPITAL_A <= point && point <= CAPITAL_Z {
+        return true;
+    }
     match point {
-        CAPITAL_A..=CAPITAL_Z => true,
         0xc1 => true, // Á
         0xc9 => true, // É
         0xcd => true, // Í
@@ -108,19 +112,23 @@ fn digit_follows(text: &[u32], place: usize) -> bool
     is_digit(point_at(text, place))
 }
 
+// The place behind the capitals, if any, from this place on: if there is a small letter in their run, one stands there.
+fn behind_capitals(text: &[u32], from: usize) -> usize
+    ensures { λ r. ⌜ mixed-next (futureAt castilian (now (text .entry)) from) ≡ isSmall (classAt castilian (now (text .entry)) r) ⌝ }
+{
+    let mut place = from;
+    while is_capital(point_at(text, place)) {
+        place += 1;
+    }
+    place
+}
+
 // Is there a small letter in the run that goes on at this place?
 fn small_follows(text: &[u32], from: usize) -> bool
     ensures { λ r. ⌜ r ≡ mixed-next (futureAt castilian (now (text .entry)) from) ⌝ }
 {
-    let mut place = from;
-    while place < text.len() {
-        let point = text[place];
-        if !is_capital(point) {
-            return is_small(point);
-        }
-        place += 1;
-    }
-    false
+    let end = behind_capitals(text, from);
+    is_small(point_at(text, end))
 }
 
 // Does a run of capitals only go on at this place?
@@ -133,30 +141,34 @@ fn capitals_follow(text: &[u32], place: usize) -> bool
     !small_follows(text, place)
 }
 
-// After its digits, a form goes on with a full stop and º or ª, or with U+2044 and a digit.
-fn ends_form(point: u32, next: u32) -> bool
-    ensures { λ r. ⌜ r ≡ endsForm castilian point next ⌝ }
+// Does a form go on at this place, behind its digits: with a full stop and º or ª, or with U+2044 and a digit?
+fn ends_form(text: &[u32], place: usize) -> bool
+    ensures { λ r. ⌜ r ≡ endsForm castilian (now (text .entry)) place ⌝ }
 {
-    match point {
-        FULL_STOP => is_ordinal(next),
-        BAR => is_digit(next),
+    match point_at(text, place) {
+        FULL_STOP => is_ordinal(point_at(text, place + 1)),
+        BAR => is_digit(point_at(text, place + 1)),
         _ => false,
     }
+}
+
+// The place behind the digits, if any, from this place on: if a form goes on behind them, it goes on there.
+fn behind_digits(text: &[u32], from: usize) -> usize
+    ensures { λ r. ⌜ form-next (futureAt castilian (now (text .entry)) from) ≡ endsForm castilian (now (text .entry)) r ⌝ }
+{
+    let mut place = from;
+    while is_digit(point_at(text, place)) {
+        place += 1;
+    }
+    place
 }
 
 // Does a form go on behind the digits, if any, from this place on?
 fn form_follows(text: &[u32], from: usize) -> bool
     ensures { λ r. ⌜ r ≡ form-next (futureAt castilian (now (text .entry)) from) ⌝ }
 {
-    let mut place = from;
-    while place < text.len() {
-        let point = text[place];
-        if !is_digit(point) {
-            return ends_form(point, point_at(text, place + 1));
-        }
-        place += 1;
-    }
-    false
+    let end = behind_digits(text, from);
+    ends_form(text, end)
 }
 
 // The deed, once what follows has decided: `next` is the place after the one at hand.
