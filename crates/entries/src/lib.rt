@@ -1,6 +1,6 @@
 // What a code point is to the transcriber: one word of named fields, found by one look-up (src/list.rt).
 // Its sign, the cells that it has by itself, is a word too (src/sign.rt).
-// A new field is a constant here and in specs/Entries.antt; a new state is one here and in specs/States.antt, and a row of the crate `turns`.
+// A new field is a constant here and in specs/Entries.antt; a new state is one here and in specs/States.antt, and a row of the crate `deeds`.
 ghost use mathlib.Core.Path.{_≡_};
 ghost use Prim.Native.Nat.{_<_, _≤_};
 ghost use Rattle.rules.specs.Castilian.{castilian};

@@ -13,9 +13,9 @@ use Rattle.rules.specs.Rows.{sortIn}
 use Rattle.entries.specs.States.{mixed}
 use Rattle.entries.specs.SignWords.{countOf}
 use Rattle.entries.specs.Entries.{entryOf, classIn, signIn, thenIn, markIn, usualIn, markNumber}
-use Rattle.turns.specs.Acts as act
-use Rattle.turns.specs.Stages.{deedOf, settledBy}
-use Rattle.turns.proofs.Machine.{mixed-capital}
+use Rattle.deeds.specs.Acts as act
+use Rattle.deeds.specs.Stages.{deedOf, settledBy}
+use Rattle.deeds.proofs.Machine.{mixed-capital}
 use Rattle.passes.specs.Middle.{Mid, Carried}
 use Rattle.passes.specs.Passes.{signBy}
 use Rattle.passes.specs.declared.Reached.{Reached}

@@ -27,9 +27,10 @@ use Rattle.pairs.specs.Opened.{openStates, opensOf, kindBy, openerBy, pairsBy}
 use Rattle.pairs.specs.declared.Pairs.{Pairs}
 use Rattle.pairs.specs.declared.Pairs.the-variants.{Stand, Broken}
 use Rattle.pairs.proofs.Pairing.{kind-small, mark-says, Means, pairs-mean, closed-is, none-open}
-use Rattle.turns.specs.Acts as act
-use Rattle.turns.specs.Stages.{itemsFrom, futureAt, stageAt, deedOf, settledBy, actOf}
-use Rattle.turns.proofs.Machine.{stage-small, then-small, parted, faultless, never-paired, done-low}
+use Rattle.deeds.specs.Acts as act
+use Rattle.deeds.specs.Stages.{stageAt, deedOf, settledBy, actOf}
+use Rattle.deeds.proofs.Machine.{stage-small, then-small, parted, faultless, never-paired, done-low}
+use Rattle.turns.specs.Ahead.{itemsFrom, futureAt}
 use Rattle.writing.specs.Joined.{joined}
 use Rattle.writing.proofs.Joined.{joined-more}
 use Rattle.passes.specs.Passes.{signBy, faultBy, shown, measuredOf, Drawn}

@@ -27,10 +27,11 @@ use Rattle.entries.specs.SignWords.{cellsIn, signOf}
 use Rattle.entries.specs.Entries.{word, entryOf, classIn, thenIn, usualIn, thenOf, usualStates, bits, markNumber, usualsOf}
 use Rattle.entries.proofs.Keys.{at-every}
 use Rattle.entries.proofs.Facts.{Worded, worded}
-use Rattle.turns.specs.Acts as act
-use Rattle.turns.specs.Stages.{itemsFrom, futureAt, stageAt, deedOf, settledBy, wayOf, silentAs, actOf}
+use Rattle.deeds.specs.Acts as act
+use Rattle.deeds.specs.Stages.{stageAt, deedOf, settledBy, wayOf, silentAs, actOf}
+use Rattle.deeds.proofs.Machine.{turn-is, usual-is, stage-small, wayNumber, faultless, done-is, done-low}
+use Rattle.turns.specs.Ahead.{itemsFrom, futureAt}
 use Rattle.turns.proofs.Ahead.{zero-unlisted, future-step}
-use Rattle.turns.proofs.Machine.{turn-is, usual-is, stage-small, wayNumber, faultless, done-is, done-low}
 use Rattle.passes.specs.Passes.{signBy, cellsBy}
 
 -- THE CELLS. Which classes a way is for; the rules give it to no other.

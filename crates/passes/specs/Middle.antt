@@ -11,7 +11,8 @@ use Rattle.rules.proofs.Sides.{row-on, verdict-on}
 use Rattle.rules.proofs.Rows.{whole-row}
 use Rattle.entries.specs.Entries.{entryOf}
 use Rattle.pairs.specs.Opened.{openStates, opensOf}
-use Rattle.turns.specs.Stages.{itemsFrom, futureAt, stageAt}
+use Rattle.deeds.specs.Stages.{stageAt}
+use Rattle.turns.specs.Ahead.{itemsFrom, futureAt}
 use Rattle.writing.specs.Joined.{joined}
 use Rattle.passes.specs.declared.Reached.{Reached}
 

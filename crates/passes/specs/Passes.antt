@@ -14,7 +14,7 @@ use Rattle.rules.proofs.Rows.{whole-row}
 use Rattle.entries.specs.Chosen.{choose}
 use Rattle.entries.specs.SignWords.{cellsIn, signOfOne, signOfTwo, signOfThree}
 use Rattle.entries.specs.Entries.{signIn, firstIn, lowerIn}
-use Rattle.turns.specs.Acts as act
+use Rattle.deeds.specs.Acts as act
 use Rattle.rows.specs.Laid.{laid}
 use Rattle.writing.specs.Joined.{joined}
 use Rattle.passes.specs.declared.Answer.{Answer}

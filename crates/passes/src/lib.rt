@@ -5,17 +5,17 @@ use entries::CAPITAL;
 use entries::FREE;
 use entries::MIXED;
 use pairs::Pairs;
-use turns::ALL_CAPITALS;
-use turns::BARE;
-use turns::FIRST_DIGIT;
-use turns::FIRST_LOWER;
-use turns::LOWER;
-use turns::NO_SIGN;
-use turns::ONE_CAPITAL;
-use turns::OUTSIDE_FORM;
-use turns::QUESTIONS;
-use turns::SEPARATED;
-use turns::WAYS;
+use deeds::ALL_CAPITALS;
+use deeds::BARE;
+use deeds::FIRST_DIGIT;
+use deeds::FIRST_LOWER;
+use deeds::LOWER;
+use deeds::NO_SIGN;
+use deeds::ONE_CAPITAL;
+use deeds::OUTSIDE_FORM;
+use deeds::QUESTIONS;
+use deeds::SEPARATED;
+use deeds::WAYS;
 ghost use mathlib.Core.Path.{_≡_};
 ghost use Prim.Native.Nat.{_≤_, _*_};
 ghost use lib.ListN.{length, take};
@@ -176,7 +176,7 @@ fn draw(text: &[u32], signs: &mut [u32]) -> Measured
                 };
                 opened = now_open;
             }
-            let told = turns::deed_of(state, entries::class_in(reached.entry));
+            let told = deeds::deed_of(state, entries::class_in(reached.entry));
             let deed = if told < QUESTIONS {
                 told
             } else {

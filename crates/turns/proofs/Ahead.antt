@@ -1,22 +1,24 @@
 -- What stands from a place on, as reading ahead finds it: each law is one test over class and future, moved to a place of a text. A place past the
--- end has code point 0, which has no sign, so that no law asks for the text's length. For any table in which 0 has none. Last: in the Castilian one,
--- reading ahead finds the same whether “ is taken for « or not (`future-plainly`). Assumes nothing.
+-- end has code point 0, which has no sign, so that no law asks for the text's length, and what is of any other class stands inside (`stands-inside`).
+-- For any table in which 0 has none. Last: in the Castilian one, reading ahead finds the same whether “ is taken for « or not (`future-plainly`).
+-- Assumes nothing.
 use mathlib.Core.Path.{_≡_, refl, sym, ap, _∙_}
-use mathlib.Core.Bool.{Bool, true, false, _&&_, _||_, not, cond, Bool·beq}
+use mathlib.Core.Logic.{⊎-elim}
+use mathlib.Core.Bool.{Bool, true, false, _&&_, _||_, not, cond, Bool·beq, true≢false}
 use mathlib.Core.List.{List, [], _∷_}
-use Prim.Native.Nat.{ℕ, zero, suc, _+_, _≤_}
+use Prim.Native.Nat.{ℕ, zero, suc, _+_, _≤_, _<_}
 use native.Mathlib.Numerals.{add-one}
 use lib.Dec.{T}
-use lib.ListN.{length, getD, drop, drop-of-length-le}
+use lib.ListN.{length, drop, List·getD-eq-default}
 use Rattle.rules.specs.Sorts.{Table, Class, unlisted, aStop, aBar, class, _is_, isDigit, isOrdinal}
 use Rattle.rules.specs.Rows.{sortIn, itemIn, itemsIn}
 use Rattle.rules.specs.Castilian.{castilian}
-use Rattle.rules.proofs.Finite.{every2, at2, beq-same, implies}
+use Rattle.rules.proofs.Finite.{every2, at2, beq-same, implies, le-or-lt}
 use Rattle.rules.proofs.States.{Future, rest}
 use Rattle.rules.proofs.Enumerations.{classes, futures}
 use Rattle.rules.proofs.Sides.{caps-next, mixed-next, form-next, digit-next, mark-next, look, future}
 use Rattle.rules.proofs.Plain.{oneFor, plainly, one-law, plainly-drop}
-use Rattle.turns.specs.Stages.{isSmall, isCapital, classAt, futureAt, endsForm}
+use Rattle.turns.specs.Ahead.{isSmall, isCapital, classAt, futureAt, endsForm}
 
 -- a fact of the future by what stands at the place and the future behind it
 seen : (g : Future → Bool) (h : Class → Future → Bool) → T (every2 classes futures (λ c f. Bool·beq (g (look c f)) (h c f))) → (c : Class) (f : Future)
@@ -46,9 +48,12 @@ module _ (tb : Table) (none-at-zero : class (sortIn tb 0) ≡ unlisted) where
   pub future-step : (text : List ℕ) (i : ℕ) → futureAt tb text i ≡ look (classAt tb text i) (futureAt tb text (i + 1))
   future-step text i = rw add-one (step text i)
 
-  pub future-end : (text : List ℕ) (i : ℕ) → length text ≤ i → futureAt tb text i ≡ rest
-  unfolding futureAt future itemsIn
-  future-end text i h = rw (drop-of-length-le text h)
+  -- past the end stands nothing of a class that 0 is not of
+  pub stands-inside : (g : Class → Bool) → g unlisted ≡ false → (text : List ℕ) (i : ℕ) → g (classAt tb text i) ≡ true → i < length text
+  stands-inside g none text i e = ⊎-elim (λ l. absurd (true≢false (sym e ∙ past l))) (λ l. l) (le-or-lt (length text) i)
+    where
+      past : length text ≤ i → g (classAt tb text i) ≡ false
+      past l = ap (λ (c : ℕ). g (class (sortIn tb c))) (List·getD-eq-default text 0 l) ∙ ap g none-at-zero ∙ none
 
   -- what stands directly there
   pub digit-at : (text : List ℕ) (i : ℕ) → digit-next (futureAt tb text i) ≡ isDigit (classAt tb text i)
@@ -85,8 +90,7 @@ module _ (tb : Table) (none-at-zero : class (sortIn tb 0) ≡ unlisted) where
       ap form-next (future-step text i)
       ∙ seen-where isDigit form-next (λ c f. form-next f) tt (classAt tb text i) (futureAt tb text (i + 1)) e
 
-  pub form-at : (text : List ℕ) (i : ℕ) → isDigit (classAt tb text i) ≡ false
-      → form-next (futureAt tb text i) ≡ endsForm tb (getD text i 0) (getD text (i + 1) 0)
+  pub form-at : (text : List ℕ) (i : ℕ) → isDigit (classAt tb text i) ≡ false → form-next (futureAt tb text i) ≡ endsForm tb text i
   unfolding look endsForm
   form-at text i e =
       ap form-next (future-step text i)

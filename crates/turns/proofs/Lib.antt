@@ -1,3 +1,2 @@
 pub mod Points
 pub mod Ahead
-pub mod Machine

@@ -1,109 +1,27 @@
-// What is done at a place of a text: its deed, from its state, the class of its code point and, where a question is asked, what follows.
+// What follows a place of a text, as far as a question of the table (crates/deeds) asks for it, and the deed once what follows has decided.
 // Read ahead is only where a run, a number or a denominator begins and after a point of a number; a state carries what was found.
-// A new state or class is added in tools/deeds.txt; a new deed is a constant here and in specs/Acts.antt, and a line of tools/deeds.txt. A new letter
-// is also an arm of `is_capital` and of `is_small`.
-use entries::BARRED;
-use entries::CAPITALS;
-use entries::DASHED;
-use entries::FREE;
-use entries::GUARDED;
-use entries::HYPHENED;
-use entries::LOWERED;
-use entries::MIXED;
-use entries::NUMBER;
-use entries::ORDINAL;
-use entries::UNDER;
+// A loop finds a place and no more, and what stands there is read anew: so the caller's loop keeps no counter for it (docs/DECISIONS.md, 30).
+// A new question is an arm of `settled`. A new letter is also an arm of `is_capital` and of `is_small`.
+use deeds::BEGINS_NUMBER;
+use deeds::BEGINS_RUN;
+use deeds::CAPITAL_ALONE;
+use deeds::DIGIT_UNDER;
+use deeds::FIRST_OF_CAPITALS;
+use deeds::FIRST_OF_FORM;
+use deeds::FIRST_OF_NUMBER;
+use deeds::NUMBER_POINT;
+use deeds::ONE_UNDER;
+use deeds::POINT_AFTER;
+use deeds::POINT_INSIDE;
+use deeds::SHARES_CELLS;
 ghost use mathlib.Core.Path.{_≡_};
-ghost use Prim.Native.Nat.{_<_};
 ghost use lib.ListN.{getD};
 ghost use Rattle.rules.specs.Castilian.{castilian};
 ghost use Rattle.rules.specs.Sorts.{class, isDigit, isOrdinal};
 ghost use Rattle.rules.specs.Rows.{sortIn};
 ghost use Rattle.rules.proofs.Sides.{caps-next, mixed-next, form-next, digit-next};
-ghost use Rattle.turns.specs.Stages.{isSmall, isCapital, futureAt, deedOf, settledBy, endsForm};
-ghost use Rattle.turns.specs.Acts.{questions};
-
-mod table;
-
-// The ways of writing: its own cells; after 46; after 46-46; after 5; after 3456; the lower digit after 3456; the lower digit; no cell, though
-// it has one.
-pub const BARE: usize = 0;
-
-pub const ONE_CAPITAL: usize = 1;
-
-pub const ALL_CAPITALS: usize = 2;
-
-pub const SEPARATED: usize = 3;
-
-pub const FIRST_DIGIT: usize = 4;
-
-pub const FIRST_LOWER: usize = 5;
-
-pub const LOWER: usize = 6;
-
-pub const SILENT: usize = 7;
-
-pub const WAYS: usize = 8;
-
-// The deeds that are a way of writing and the state after it, in one number: state * WAYS + way.
-const SIGN: usize = FREE * WAYS + BARE;
-
-const LETTER: usize = MIXED * WAYS + BARE;
-
-const SEPARATED_LETTER: usize = MIXED * WAYS + SEPARATED;
-
-const CAPITAL_ALONE: usize = MIXED * WAYS + ONE_CAPITAL;
-
-const FIRST_OF_CAPITALS: usize = CAPITALS * WAYS + ALL_CAPITALS;
-
-const CAPITAL_OF_MANY: usize = CAPITALS * WAYS + BARE;
-
-const FIRST_OF_NUMBER: usize = NUMBER * WAYS + FIRST_DIGIT;
-
-const DIGIT: usize = NUMBER * WAYS + BARE;
-
-const POINT_INSIDE: usize = NUMBER * WAYS + BARE;
-
-const POINT_AFTER: usize = GUARDED * WAYS + BARE;
-
-const FIRST_OF_FORM: usize = LOWERED * WAYS + FIRST_LOWER;
-
-const LOWER_DIGIT: usize = LOWERED * WAYS + LOWER;
-
-const STOP_OF_ORDINAL: usize = ORDINAL * WAYS + SILENT;
-
-const FEMININE_MARK: usize = GUARDED * WAYS + BARE;
-
-const BAR_OF_FRACTION: usize = BARRED * WAYS + BARE;
-
-const DIGIT_UNDER: usize = UNDER * WAYS + BARE;
-
-const THE_HYPHEN: usize = HYPHENED * WAYS + BARE;
-
-const THE_DASH: usize = DASHED * WAYS + BARE;
-
-// The questions, which what follows decides; the least of them. Below it a deed is a way and a state.
-pub const QUESTIONS: usize = 88;
-
-const BEGINS_RUN: usize = 88;
-
-const BEGINS_NUMBER: usize = 89;
-
-const NUMBER_POINT: usize = 90;
-
-const ONE_UNDER: usize = 91;
-
-// The faults.
-pub const NO_SIGN: usize = 92;
-
-pub const OUTSIDE_FORM: usize = 93;
-
-pub const SHARES_CELLS: usize = 94;
-
-// The table has a row for each state: how many classes and how many states there is room for.
-const CLASS_PLACES: usize = 16;
-
-const STATE_PLACES: usize = 16;
+ghost use Rattle.deeds.specs.Stages.{settledBy};
+ghost use Rattle.turns.specs.Ahead.{isSmall, isCapital, classAt, futureAt, endsForm};
 
 // The code points that reading ahead knows.
 const DIGIT_0: u32 = 0x30; // 0
@@ -145,11 +63,14 @@ fn is_ordinal(point: u32) -> bool
     }
 }
 
+// A to Z comes first: of most capitals nothing more is asked.
 fn is_capital(point: u32) -> bool
     ensures { λ r. ⌜ r ≡ isCapital (class (sortIn castilian point)) ⌝ }
 {
+    if CAPITAL_A <= point && point <= CAPITAL_Z {
+        return true;
+    }
     match point {
-        CAPITAL_A..=CAPITAL_Z => true,
         0xc1 => true, // Á
         0xc9 => true, // É
         0xcd => true, // Í
@@ -191,19 +112,23 @@ fn digit_follows(text: &[u32], place: usize) -> bool
     is_digit(point_at(text, place))
 }
 
+// The place behind the capitals, if any, from this place on: if there is a small letter in their run, one stands there.
+fn behind_capitals(text: &[u32], from: usize) -> usize
+    ensures { λ r. ⌜ mixed-next (futureAt castilian (now (text .entry)) from) ≡ isSmall (classAt castilian (now (text .entry)) r) ⌝ }
+{
+    let mut place = from;
+    while is_capital(point_at(text, place)) {
+        place += 1;
+    }
+    place
+}
+
 // Is there a small letter in the run that goes on at this place?
 fn small_follows(text: &[u32], from: usize) -> bool
     ensures { λ r. ⌜ r ≡ mixed-next (futureAt castilian (now (text .entry)) from) ⌝ }
 {
-    let mut place = from;
-    while place < text.len() {
-        let point = text[place];
-        if !is_capital(point) {
-            return is_small(point);
-        }
-        place += 1;
-    }
-    false
+    let end = behind_capitals(text, from);
+    is_small(point_at(text, end))
 }
 
 // Does a run of capitals only go on at this place?
@@ -216,38 +141,34 @@ fn capitals_follow(text: &[u32], place: usize) -> bool
     !small_follows(text, place)
 }
 
-// After its digits, a form goes on with a full stop and º or ª, or with U+2044 and a digit.
-fn ends_form(point: u32, next: u32) -> bool
-    ensures { λ r. ⌜ r ≡ endsForm castilian point next ⌝ }
+// Does a form go on at this place, behind its digits: with a full stop and º or ª, or with U+2044 and a digit?
+fn ends_form(text: &[u32], place: usize) -> bool
+    ensures { λ r. ⌜ r ≡ endsForm castilian (now (text .entry)) place ⌝ }
 {
-    match point {
-        FULL_STOP => is_ordinal(next),
-        BAR => is_digit(next),
+    match point_at(text, place) {
+        FULL_STOP => is_ordinal(point_at(text, place + 1)),
+        BAR => is_digit(point_at(text, place + 1)),
         _ => false,
     }
+}
+
+// The place behind the digits, if any, from this place on: if a form goes on behind them, it goes on there.
+fn behind_digits(text: &[u32], from: usize) -> usize
+    ensures { λ r. ⌜ form-next (futureAt castilian (now (text .entry)) from) ≡ endsForm castilian (now (text .entry)) r ⌝ }
+{
+    let mut place = from;
+    while is_digit(point_at(text, place)) {
+        place += 1;
+    }
+    place
 }
 
 // Does a form go on behind the digits, if any, from this place on?
 fn form_follows(text: &[u32], from: usize) -> bool
     ensures { λ r. ⌜ r ≡ form-next (futureAt castilian (now (text .entry)) from) ⌝ }
 {
-    let mut place = from;
-    while place < text.len() {
-        let point = text[place];
-        if !is_digit(point) {
-            return ends_form(point, point_at(text, place + 1));
-        }
-        place += 1;
-    }
-    false
-}
-
-// What the table says of a state and a class: a deed that is settled, or a question. (States and classes are below 16, so that the remainders are
-// they.)
-pub fn deed_of(state: usize, class: usize) -> usize
-    ensures { λ r. ⌜ r ≡ deedOf state class ⌝ }
-{
-    table::deed_at(state % STATE_PLACES * CLASS_PLACES + class % CLASS_PLACES)
+    let end = behind_digits(text, from);
+    ends_form(text, end)
 }
 
 // The deed, once what follows has decided: `next` is the place after the one at hand.

@@ -12,9 +12,10 @@ use Rattle.rules.proofs.States.{Past}
 use Rattle.rules.proofs.Rows.{whole-row}
 use Rattle.rules.proofs.Plain.{plainly, plainly-length, plainly-at}
 use Rattle.entries.specs.Entries.{entryOf, classIn, markIn}
-use Rattle.turns.specs.Acts as act
-use Rattle.turns.specs.Stages.{futureAt, deedOf, settledBy}
-use Rattle.turns.proofs.Machine.{settled-low}
+use Rattle.deeds.specs.Acts as act
+use Rattle.deeds.specs.Stages.{deedOf, settledBy}
+use Rattle.deeds.proofs.Machine.{settled-low}
+use Rattle.turns.specs.Ahead.{futureAt}
 use Rattle.turns.proofs.Ahead.{future-plainly}
 use Rattle.writing.specs.Joined.{joined}
 use Rattle.passes.specs.Passes.{signBy, measuredOf}
@@ -33,7 +34,7 @@ use Rattle.pairs.proofs.pairs_after.Reads as pairs-after-reads
 use Rattle.passes.proofs.draw_usual.Reads as draw-usual-reads
 use Rattle.passes.proofs.fault_of.Reads as fault-of-reads
 use Rattle.passes.proofs.sign_of.Reads as sign-of-reads
-use Rattle.turns.proofs.deed_of.Reads as deed-of-reads
+use Rattle.deeds.proofs.deed_of.Reads as deed-of-reads
 use Rattle.turns.proofs.settled.Reads as settled-reads
 
 abbrev Inv-loop : tie.InvT-loop

@@ -6,7 +6,7 @@ use borrow.Author.Tests.{not-true, not-false}
 use Rattle.rules.specs.Castilian.{castilian}
 use Rattle.rules.specs.Sorts.{class}
 use Rattle.rules.specs.Rows.{sortIn}
-use Rattle.turns.specs.Stages.{isCapital, classAt}
+use Rattle.turns.specs.Ahead.{isCapital, classAt}
 use Rattle.turns.proofs.Ahead.{zero-unlisted, capitals-at}
 use borrow.Author.Needs.{needs}
 use Rattle.turns.proofs.capitals_follow.Statement.{statement}

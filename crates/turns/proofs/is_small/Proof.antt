@@ -7,7 +7,7 @@ use Rattle.rules.specs.Cells.{dots}
 use Rattle.rules.specs.Sorts.{class, isDigitCell}
 use Rattle.rules.specs.Rows.{sortIn}
 use Rattle.entries.proofs.Keys.{rest-none}
-use Rattle.turns.specs.Stages.{isSmall}
+use Rattle.turns.specs.Ahead.{isSmall}
 use Rattle.turns.proofs.Points.{told, told-in, told-below, told-above, known}
 use Rattle.turns.proofs.is_small.Statement.{statement}
 use Rattle.turns.proofs.is_small.Tie as tie

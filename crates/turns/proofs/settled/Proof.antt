@@ -2,8 +2,8 @@
 use mathlib.Core.Bool.{true, false}
 use Rattle.rules.specs.Castilian.{castilian}
 use Rattle.rules.proofs.States.{Future}
-use Rattle.turns.specs.Stages.{futureAt}
-use Rattle.turns.proofs.Machine.{settled-run, settled-number, settled-point, settled-one, settled-else}
+use Rattle.turns.specs.Ahead.{futureAt}
+use Rattle.deeds.proofs.Machine.{settled-run, settled-number, settled-point, settled-one, settled-else}
 use borrow.Author.Needs.{needs}
 use Rattle.turns.proofs.settled.Statement.{statement}
 use Rattle.turns.proofs.settled.Tie as tie

@@ -3,7 +3,7 @@
 -- is no sign. That it is what the rules say is shown by a computed test (proofs/Machine.antt). Assumes nothing.
 use Prim.Native.Nat.{ℕ}
 use mathlib.Core.List.{List, [], _∷_}
-use Rattle.turns.specs.Acts.{barOfFraction, beginsNumber, beginsRun, capitalAlone, capitalOfMany, digit, digitUnder, feminineMark, letter, lowerDigit, noSign, numberPoint, oneUnder, outsideForm, separatedLetter, sharesCells, sign, stopOfOrdinal, theDash, theHyphen}
+use Rattle.deeds.specs.Acts.{barOfFraction, beginsNumber, beginsRun, capitalAlone, capitalOfMany, digit, digitUnder, feminineMark, letter, lowerDigit, noSign, numberPoint, oneUnder, outsideForm, separatedLetter, sharesCells, sign, stopOfOrdinal, theDash, theHyphen}
 
 unfoldable pub deeds : List ℕ
 deeds =

@@ -16,9 +16,9 @@ use Rattle.rules.proofs.Enumerations.{pasts, classes, futures, ways}
 use Rattle.rules.proofs.Sides.{caps-next, form-next, digit-next, rule, look, after}
 use Rattle.entries.specs.States as state
 use Rattle.entries.specs.Entries.{thenOf, usualStates, bits}
-use Rattle.turns.specs.Acts as act
-use Rattle.turns.specs.Deeds.{deeds}
-use Rattle.turns.specs.Stages.{stageAt, deedOf, settledBy, wayOf, silentAs, actOf}
+use Rattle.deeds.specs.Acts as act
+use Rattle.deeds.specs.Deeds.{deeds}
+use Rattle.deeds.specs.Stages.{stageAt, deedOf, settledBy, wayOf, silentAs, actOf}
 
 turn-right : Past → Class → Future → Bool
 turn-right p c f = eqb (settledBy (deedOf (stageAt p (look c f)) (classNumber c)) f) (actOf c (rule p c f) (stageAt (after p c) f))

@@ -6,11 +6,11 @@ use mathlib.Core.List.{List, [], _∷_}
 use Prim.Native.Nat.{ℕ}
 use lib.ListN.{getD}
 use Rattle.entries.proofs.Keys.{rest-none}
-use Rattle.turns.specs.Acts.{noSign}
-use Rattle.turns.specs.Deeds.{deeds}
+use Rattle.deeds.specs.Acts.{noSign}
+use Rattle.deeds.specs.Deeds.{deeds}
 use Rattle.entries.proofs.Places.{upto, only-last}
-use Rattle.turns.proofs.table.deed_at.Statement.{statement}
-use Rattle.turns.proofs.table.deed_at.Tie as tie
+use Rattle.deeds.proofs.table.deed_at.Statement.{statement}
+use Rattle.deeds.proofs.table.deed_at.Tie as tie
 
 -- what the table has at a place
 abbrev entry : ℕ → ℕ

@@ -24,8 +24,8 @@ use crate::THE_HYPHEN;
 ghost use mathlib.Core.Path.{_≡_};
 ghost use Prim.Native.Nat.{_<_};
 ghost use lib.ListN.{getD};
-ghost use Rattle.turns.specs.Acts.{noSign};
-ghost use Rattle.turns.specs.Deeds.{deeds, deedCount};
+ghost use Rattle.deeds.specs.Acts.{noSign};
+ghost use Rattle.deeds.specs.Deeds.{deeds, deedCount};
 
 // There is no other place in the table than these.
 pub fn deed_at(place: usize) -> usize

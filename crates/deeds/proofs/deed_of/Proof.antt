@@ -1,11 +1,11 @@
 -- `deed_of`: the table's row of the state, at the class. Assumes nothing.
-use Rattle.turns.specs.Stages.{deedOf}
+use Rattle.deeds.specs.Stages.{deedOf}
 use borrow.Author.Needs.{needs}
-use Rattle.turns.proofs.deed_of.Statement.{statement}
-use Rattle.turns.proofs.deed_of.Tie as tie
-use Rattle.turns.proofs.deed_of.Reads as reads
-use Rattle.turns.proofs.deed_of.Lts as lts
-use Rattle.turns.proofs.table.deed_at.Reads as deed-at-reads
+use Rattle.deeds.proofs.deed_of.Statement.{statement}
+use Rattle.deeds.proofs.deed_of.Tie as tie
+use Rattle.deeds.proofs.deed_of.Reads as reads
+use Rattle.deeds.proofs.deed_of.Lts as lts
+use Rattle.deeds.proofs.table.deed_at.Reads as deed-at-reads
 
 mul-deed-at : tie.Need-mul-deed-at
 mul-deed-at c = search needs

@@ -1,41 +1,18 @@
--- What the functions of this crate promise, in the rules' words. In order: what stands at and from a place of a text; the state of a place, from
--- what stands before it and from it on; the deed there. Past, future and `rule` are those of the rules' proofs (crates/rules/proofs/Sides.antt):
+-- What the table means in the rules' words. In order: the state of a place, from what stands before it and from it on; the deed there, as the table
+-- has it and as the rules have it. Past, future and `rule` are those of the rules' proofs (crates/rules/proofs/Sides.antt):
 -- inner promises may speak of them, the public one does not. Assumes nothing.
-use mathlib.Core.Bool.{Bool, false, _||_, cond}
-use mathlib.Core.List.{List}
+use mathlib.Core.Bool.{cond}
 use Prim.Native.Nat.{ℕ, _+_, _*_, _%_}
 use lib.Dec.{eqb}
-use lib.ListN.{drop, getD}
-use Rattle.rules.specs.Sorts.{Item, Table, Class, aToJ, otherSmall, capital, aStop, aBar, class, _is_, isDigit, isOrdinal}
+use lib.ListN.{getD}
+use Rattle.rules.specs.Sorts.{Class, aBar, _is_}
 use Rattle.rules.specs.Signs.{Way, bare, oneCapital, allCapitals, separated, firstDigit, firstLower, lower, denominator, ordinalMark, inside}
 use Rattle.rules.specs.Places.{lacksSign, breaksPair, outsideForm, sharesCells, Outcome, fault, silent, sign}
-use Rattle.rules.specs.Rows.{sortIn, itemsIn}
 use Rattle.rules.proofs.States.{Past, free, lone, caps, mixed, plain-on, past-on, under-one, under, past-bar, past-stop, past-point, past-dash, past-hyphen, past-feminine, past-percent, Future}
-use Rattle.rules.proofs.Sides.{caps-next, mixed-next, form-next, digit-next, mark-next, future}
+use Rattle.rules.proofs.Sides.{caps-next, mixed-next, form-next, digit-next, mark-next}
 use Rattle.entries.specs.States as state
-use Rattle.turns.specs.Acts as act
-use Rattle.turns.specs.Deeds.{deeds}
-
--- WHAT STANDS THERE
-abbrev pub isSmall : Class → Bool
-isSmall c = c is aToJ || c is otherSmall
-
-abbrev pub isCapital : Class → Bool
-isCapital c = c is capital
-
-abbrev pub classAt : Table → List ℕ → ℕ → Class
-classAt tb text i = class (sortIn tb (getD text i 0))
-
-abbrev pub itemsFrom : Table → List ℕ → ℕ → List Item
-itemsFrom tb text i = itemsIn tb (drop i text)
-
-unfoldable pub futureAt : Table → List ℕ → ℕ → Future
-futureAt tb text i = future (itemsFrom tb text i)
-
--- a code point, and the one after it, that a form goes on with behind its digits
-unfoldable pub endsForm : Table → ℕ → ℕ → Bool
-endsForm tb c d =
-    cond (class (sortIn tb c) is aStop) (isOrdinal (class (sortIn tb d))) (cond (class (sortIn tb c) is aBar) (isDigit (class (sortIn tb d))) false)
+use Rattle.deeds.specs.Acts as act
+use Rattle.deeds.specs.Deeds.{deeds}
 
 -- THE STATE: after what stands before a place, with what stands from it on in view
 unfoldable pub stageAt : Past → Future → ℕ
