@@ -1,6 +1,7 @@
 // A walk over a part of a row, sign by sign. Between two signs it knows a mode and which pairs are open; both follow from the cells before. What is read is
 // written to a lent text, if there is room for it. What a walk finds is specs/Walks.antt.
 use readings::DASH;
+use readings::MID;
 use readings::NO_POINT;
 use readings::OWING;
 use readings::Step;
@@ -144,6 +145,7 @@ fn run(
     ensures { λ r. ⌜ Runs (now (row .entry)) stop from begun unclosed counted (now (text .entry)) (now (text .exit)) r ⌝ }
 {
     let field = signs::run_of(begun);
+    let mut mode: usize = begun;
     let mut at: usize = from;
     let mut count: usize = counted;
     while at < stop {
@@ -151,23 +153,24 @@ fn run(
             lead,
             point,
             next,
-            mode: _,
+            mode: mode_after,
             opened: _,
-        } = signs::run_at(row, at, field, begun, unclosed)
+        } = signs::run_at(row, at, field, mode, unclosed)
         else {
             return Walked::On {
                 at,
-                mode: begun,
+                mode,
                 opened: unclosed,
                 count,
             };
         };
         count = put(text, count, lead, point);
+        mode = mode_after;
         at = next;
     }
     Walked::On {
         at,
-        mode: begun,
+        mode,
         opened: unclosed,
         count,
     }
@@ -254,7 +257,7 @@ pub fn walk(
                 return Walked::Nowhere;
             };
             count = put(text, count, lead, point);
-            if mode_after == mode {
+            if mode_after == mode || mode_after == MID {
                 let Walked::On {
                     at: at_last,
                     mode: mode_last,
