@@ -360,7 +360,7 @@ pub fn sign_at(row: &[u8], at: usize, word: u64, mode: usize, opened: usize) -> 
     }
 }
 
-// The run that a mode is in: more of its cells may follow, each one code point. A number's points and commas belong to its run.
+// The run that a mode is in: more of its cells may follow, each one code point. The points and commas inside a number are in its run.
 pub fn run_of(mode: usize) -> usize
     ensures { λ r. ⌜ r ≡ runOf mode ⌝ }
 {
@@ -374,7 +374,7 @@ pub fn run_of(mode: usize) -> usize
     }
 }
 
-// The mode that a cell of its run leaves: the mode itself, and behind a point inside a number that of the number.
+// The mode that a digit or a letter of its run leaves: the mode itself, and behind a point inside a number that of the number.
 fn home_of(mode: usize) -> usize
     ensures { λ r. ⌜ r ≡ homeOf mode ⌝ }
 {
@@ -391,7 +391,8 @@ fn run_point(cell: u8, run: usize) -> u32
     ((cells::run_word(cell) >> (run % WORD_BITS)) % POINT_PLACES) as u32
 }
 
-// A quick reading of the point or the comma behind a digit, where a digit follows: "any single full stop or comma that stands directly between two digits".
+// A quick reading of a point or a comma behind a digit of a number: "any single full stop or comma that stands directly between two digits", so a digit has to
+// follow. Where none does, it says nothing.
 fn point_inside(row: &[u8], at: usize, cell: u8, opened: usize) -> Step
     requires { ⌜ (length (now row) ≤ longestRow) × (at < length (now row)) × (cell ≡ cellOf (now row) at) ⌝ }
     ensures { λ r. ⌜ Quick (now (row .entry)) at num mid opened r ⌝ }
@@ -408,7 +409,7 @@ fn point_inside(row: &[u8], at: usize, cell: u8, opened: usize) -> Step
     Step::Nothing
 }
 
-// A quick reading of a cell of the run that the mode is in.
+// A quick reading of a cell of the run that the mode is in: a digit or a letter, or a point inside a number.
 pub fn run_at(row: &[u8], at: usize, run: usize, mode: usize, opened: usize) -> Step
     requires { ⌜ (length (now row) ≤ longestRow) × (at < length (now row)) × (mode < modeCount) × (run ≡ runOf mode) × (run < noRun) ⌝ }
     ensures { λ r. ⌜ InRun (now (row .entry)) at mode opened r ⌝ }

@@ -46,11 +46,11 @@ abbrev mode-after : K → ℕ
 mode-after k = k .before .lead .given .0 .1 .1 .1 .0
 
 turn : (k : K) → let i = in-k k in
-    (runOf (mode-after k) ≡ runOf (i .before .loop .mode))
-        × Turn (row i) (i .before .loop .at) (i .before .loop .mode) (start i .args .unclosed) (k .before .lead .given .0 .0) (k .before .lead .given .0 .1 .0) (k .before .lead .given .0 .1 .1 .0) (mode-after k) (start i .args .unclosed)
+    (runOf (mode-after k) ≡ runOf (i .before .loop .mode-now))
+    × Turn (row i) (i .before .loop .at) (i .before .loop .mode-now) (start i .args .unclosed) (k .before .lead .given .0 .0) (k .before .lead .given .0 .1 .0) (k .before .lead .given .0 .1 .1 .0) (mode-after k) (start i .args .unclosed)
 turn k =
     let i = in-k k in
-    run-turn (row i) (i .before .loop .at) (i .before .loop .mode) (start i .args .unclosed) (inside i) (i .before .loop .inv .0 .leads .mode) (i .before .loop .inv .0 .leads .opens) _
+    run-turn (row i) (i .before .loop .at) (i .before .loop .mode-now) (start i .args .unclosed) (inside i) (i .before .loop .inv .0 .leads .mode) (i .before .loop .inv .0 .leads .opens) _
     (k .before .before .before .run-at .ensures) _ _ _ _ _ (k .before .lead .given .1)
 
 run-of-requires : tie.Need-run-of-requires Inv-loop μ-loop
