@@ -448,16 +448,12 @@ home-run m = go (eqb m mode.mid) refl
     go true e = sym (ap runOf (eqb→eq m mode.mid (subst T (sym e) tt)))
     go false e = refl
 
--- the point and the comma inside a number
-pub stop-step : (row : Row) (at o : ℕ) → cellOf row at ≡ dots 3 → digitCell (cellOf row (at + 1)) ≡ true
-    → variant.Sign noPoint (code ".") (at + 1) mode.mid o ≡ stepAt row at mode.num o
-unfolding stepAt readingOf byWord askedBy words deeds dots
-stop-step row at o e f = sym (ap (λ (x : ℕ). stepOf at o (readingOf mode.num x (cellOf row (at + 1)) (cellOf row (at + 2)))) e ∙ rw f)
-
-pub comma-step : (row : Row) (at o : ℕ) → cellOf row at ≡ dots 2 → digitCell (cellOf row (at + 1)) ≡ true
-    → variant.Sign noPoint (code ",") (at + 1) mode.mid o ≡ stepAt row at mode.num o
-unfolding stepAt readingOf byWord askedBy words deeds dots
-comma-step row at o e f = sym (ap (λ (x : ℕ). stepOf at o (readingOf mode.num x (cellOf row (at + 1)) (cellOf row (at + 2)))) e ∙ rw f)
+-- a cell that is a point or a comma inside a number, where a digit follows; the mode that it leaves is in the same run
+pub point-step : (row : Row) (at o x p : ℕ) → cellOf row at ≡ x → usualIn (wordOf x) mode.num ≡ false → act.point ≡ deedOf mode.num (classIn (wordOf x))
+    → p ≡ pointIn (wordOf x) → digitCell (cellOf row (at + 1)) ≡ true → variant.Sign noPoint p (at + 1) mode.mid o ≡ stepAt row at mode.num o
+point-step row at o x p e u told q f =
+    point-inside at o act.point (wordOf x) (cellOf row at) (cellOf row (at + 1)) (cellOf row (at + 2)) refl f p q
+    ∙ by-deed row at mode.num o (wordOf x) (ap wordOf (sym e)) u act.point told (askedBy act.point (wordOf x) (cellOf row at) (cellOf row (at + 1)) (cellOf row (at + 2))) refl
 
 pub in-number : (row : Row) (at m o : ℕ) (s : Step) → m ≡ mode.num → Quick row at mode.num mode.mid o s → InRun row at m o s
 unfolding runOf

@@ -89,7 +89,7 @@ const NO_CELL: u8 = 64;
 // "Cells are bytes 0 to 63"
 pub const LAST_CELL: u8 = 63;
 
-// The code points that a deed gives by itself.
+// The code points that a deed or a quick reading gives by itself.
 const FULL_STOP: u32 = 0x2e; // .
 
 const THE_COMMA: u32 = 0x2c; // ,

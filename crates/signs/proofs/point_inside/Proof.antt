@@ -1,13 +1,15 @@
--- `point_inside`: 3 or 2, where the cell that follows is that of a digit (`stop-step`, `comma-step`). Assumes nothing.
+-- `point_inside`: 3 or 2, where the cell that follows is that of a digit (`point-step`). Assumes nothing.
 use mathlib.Core.Bool.{true}
 use mathlib.Core.Logic.{inl, inr}
 use mathlib.Core.Path.{_≡_, refl, sym, ap, _∙_}
 use Prim.Native.Nat.{_+_}
 use Prim.Native.Char.{code}
 use Rattle.rules.specs.Cells.{dots}
+use Rattle.readings.specs.Deeds.{deeds}
 use Rattle.readings.specs.Fields.{cellOf}
+use Rattle.readings.specs.Words.{words}
 use Rattle.readings.specs.Readings.{digitCell}
-use Rattle.signs.proofs.Cases.{stop-step, comma-step}
+use Rattle.signs.proofs.Cases.{point-step}
 use borrow.Author.Needs.{needs}
 use Rattle.signs.proofs.point_inside.Statement.{statement}
 use Rattle.signs.proofs.point_inside.Tie as tie
@@ -40,13 +42,13 @@ sign-requires : tie.Need-sign-requires
 sign-requires c κs = search needs
 
 returns : tie.Need-returns
-unfolding dots
+unfolding dots words deeds
 returns c =
     let d = c .before .before .before in
     let s = start d in
     inr (
       c .sign .ensures
-          ∙ stop-step (s .args .row .now) (s .args .at) (s .args .opened) (sym (s .pre .2) ∙ c .before .if2 .taken) (sym (digit-told d) ∙ c .before .before .if1 .taken),
+          ∙ point-step (s .args .row .now) (s .args .at) (s .args .opened) (dots 3) (code ".") (sym (s .pre .2) ∙ c .before .if2 .taken) refl refl refl (sym (digit-told d) ∙ c .before .before .if1 .taken),
       (code ".", s .args .at + 1, c .sign .ensures),
     )
 
@@ -57,13 +59,13 @@ sign-requires-2 : tie.Need-sign-requires-2
 sign-requires-2 c κs = search needs
 
 returns-2 : tie.Need-returns-2
-unfolding dots
+unfolding dots words deeds
 returns-2 c =
     let d = c .before .before .before .before in
     let s = start d in
     inr (
       c .sign2 .ensures
-          ∙ comma-step (s .args .row .now) (s .args .at) (s .args .opened) (sym (s .pre .2) ∙ c .before .if3 .taken) (sym (digit-told d) ∙ c .before .before .before .if1 .taken),
+          ∙ point-step (s .args .row .now) (s .args .at) (s .args .opened) (dots 2) (code ",") (sym (s .pre .2) ∙ c .before .if3 .taken) refl refl refl (sym (digit-told d) ∙ c .before .before .before .if1 .taken),
       (code ",", s .args .at + 1, c .sign2 .ensures),
     )
 
