@@ -26,7 +26,7 @@ use Rattle.readings.specs.Fields.{deedOf, classIn, pointIn, capitalIn, figureIn
 use Rattle.readings.specs.Words.{words, wordOf, twoOf}
 use Rattle.readings.specs.Readings.{noPoint, Reading, reads, aMark, one, usualBy, onceList, digitCell, capitalModes, capitalLetter, capitalBy, numberBy, percentBy, innerQuotes, longerBy, prefixBy, askList, askedBy, readingOf, byWord, openerOf, closerOf, markStep, stepOf, stepAt}
 use Rattle.readings.specs.Readings as reading
-use Rattle.signs.specs.Runs.{noRun, runOf}
+use Rattle.signs.specs.Runs.{noRun, runOf, homeOf, Quick, InRun}
 use Rattle.readings.specs.declared.Step.{Step}
 use Rattle.readings.specs.declared.Step.the-variants as variant
 use Rattle.readings.proofs.Settling.{is-true}
@@ -352,7 +352,7 @@ no-cell row at m o l h k = go (usualIn 0 m) refl (deedOf m (classIn 0)) refl (at
     go true e d f t = absurd t
     go false e d f t = sym (told-none row at m o 0 word-is e d (sym f) (eqb→eq d act.noSign t))
 
--- QUICK READINGS. In a run: what each cell is is what the table says, and the mode stays
+-- QUICK READINGS. In a run: what each cell is is what the table says, and it leaves the run's own mode
 both : (a b : Bool) → T (a && b) → T a × T b
 both true b t = (tt, t)
 both false b t = absurd t
@@ -366,16 +366,16 @@ told-as d p m its-deed its-point its-mode = eqb d its-deed && (eqb p its-point &
 
 abbrev run-told : ℕ → ℕ → ℕ → Bool
 run-told m w p =
-    told-as (deedOf m (classIn w)) p m act.digit (figureIn w) mode.num
-    || (told-as (deedOf m (classIn w)) p m act.digitUnder (figureIn w) mode.under
-    || (told-as (deedOf m (classIn w)) p m act.capitalOfMany (capitalIn w) mode.whole2
-    || told-as (deedOf m (classIn w)) p m act.lowerDigit (lowerIn w) mode.low))
+    told-as (deedOf m (classIn w)) p (homeOf m) act.digit (figureIn w) mode.num
+    || (told-as (deedOf m (classIn w)) p (homeOf m) act.digitUnder (figureIn w) mode.under
+    || (told-as (deedOf m (classIn w)) p (homeOf m) act.capitalOfMany (capitalIn w) mode.whole2
+    || told-as (deedOf m (classIn w)) p (homeOf m) act.lowerDigit (lowerIn w) mode.low))
 
 abbrev run-test : ℕ → ℕ → Bool
 run-test m w = leb noRun (runOf m) || (eqb (runPoint w (runOf m)) noPoint || (not (usualIn w m) && run-told m w (runPoint w (runOf m))))
 
 runs-right : T (below (λ x. below (λ m. run-test m (wordOf x)) modeCount) sights)
-unfolding deeds words runOf
+unfolding deeds words runOf homeOf
 runs-right = tt
 
 module _ (row : Row) (at m o p run : ℕ) (small : m < modeCount) (inside : at < length row) (low : getD row at 0 ≤ lastCell) (is-run : run ≡ runOf m)
@@ -386,14 +386,14 @@ module _ (row : Row) (at m o p run : ℕ) (small : m < modeCount) (inside : at <
   point-is : p ≡ runPoint (wordOf (cellOf row at)) (runOf m)
   point-is = is-point ∙ ap (λ (n : ℕ). runPoint (wordOf n) run) (cell-low row at inside low) ∙ ap (runPoint (wordOf (cellOf row at))) is-run
 
-  is-told : (its-deed its-point its-mode : ℕ) → T (told-as (deedOf m (classIn (wordOf (cellOf row at)))) (runPoint (wordOf (cellOf row at)) (runOf m)) m its-deed its-point its-mode)
-      → (deedOf m (classIn (wordOf (cellOf row at))) ≡ its-deed) × (p ≡ its-point) × (m ≡ its-mode)
+  is-told : (its-deed its-point its-mode : ℕ) → T (told-as (deedOf m (classIn (wordOf (cellOf row at)))) (runPoint (wordOf (cellOf row at)) (runOf m)) (homeOf m) its-deed its-point its-mode)
+      → (deedOf m (classIn (wordOf (cellOf row at))) ≡ its-deed) × (p ≡ its-point) × (homeOf m ≡ its-mode)
   is-told its-deed its-point its-mode t =
-      let a = both (eqb (deedOf m (classIn (wordOf (cellOf row at)))) its-deed) (eqb (runPoint (wordOf (cellOf row at)) (runOf m)) its-point && eqb m its-mode) t in
-      let b = both (eqb (runPoint (wordOf (cellOf row at)) (runOf m)) its-point) (eqb m its-mode) (a .1) in
-      (eqb→eq (deedOf m (classIn (wordOf (cellOf row at)))) its-deed (a .0), point-is ∙ eqb→eq (runPoint (wordOf (cellOf row at)) (runOf m)) its-point (b .0), eqb→eq m its-mode (b .1))
+      let a = both (eqb (deedOf m (classIn (wordOf (cellOf row at)))) its-deed) (eqb (runPoint (wordOf (cellOf row at)) (runOf m)) its-point && eqb (homeOf m) its-mode) t in
+      let b = both (eqb (runPoint (wordOf (cellOf row at)) (runOf m)) its-point) (eqb (homeOf m) its-mode) (a .1) in
+      (eqb→eq (deedOf m (classIn (wordOf (cellOf row at)))) its-deed (a .0), point-is ∙ eqb→eq (runPoint (wordOf (cellOf row at)) (runOf m)) its-point (b .0), eqb→eq (homeOf m) its-mode (b .1))
 
-  pub run-step : variant.Sign noPoint p (at + 1) m o ≡ stepAt row at m o
+  pub run-step : variant.Sign noPoint p (at + 1) (homeOf m) o ≡ stepAt row at m o
   run-step =
       ⊎-elim (λ t. absurd (omega (arith, leb-true noRun (runOf m) (is-true (leb noRun (runOf m)) t), is-run, some-run)))
       (λ t. ⊎-elim (λ k. absurd (a-point (point-is ∙ eqb→eq (runPoint w (runOf m)) noPoint k)))
@@ -402,7 +402,7 @@ module _ (row : Row) (at m o p run : ℕ) (small : m < modeCount) (inside : at <
       (either (leb noRun (runOf m)) (eqb (runPoint w (runOf m)) noPoint || (not (usualIn w m) && run-told m w (runPoint w (runOf m))))
       (at-below (λ m. run-test m w) modeCount (at-below (λ x. below (λ m. run-test m (wordOf x)) modeCount) sights runs-right (cellOf row at) (sight-small (getD row at noCell))) m small))
     where
-      mode-is : (k : ℕ) → m ≡ k → variant.Sign noPoint p (at + 1) m o ≡ variant.Sign noPoint p (at + 1) k o
+      mode-is : (k : ℕ) → homeOf m ≡ k → variant.Sign noPoint p (at + 1) (homeOf m) o ≡ variant.Sign noPoint p (at + 1) k o
       mode-is k e = ap (λ (n : ℕ). variant.Sign noPoint p (at + 1) n o) e
 
       not-usual : T (not (usualIn (wordOf (cellOf row at)) m)) → usualIn (wordOf (cellOf row at)) m ≡ false
@@ -418,8 +418,11 @@ module _ (row : Row) (at m o p run : ℕ) (small : m < modeCount) (inside : at <
       q : ℕ
       q = runPoint (wordOf (cellOf row at)) (runOf m)
 
+      home : ℕ
+      home = homeOf m
+
       by-run : T (not (usualIn (wordOf (cellOf row at)) m)) × T (run-told m (wordOf (cellOf row at)) (runPoint (wordOf (cellOf row at)) (runOf m)))
-          → variant.Sign noPoint p (at + 1) m o ≡ stepAt row at m o
+          → variant.Sign noPoint p (at + 1) (homeOf m) o ≡ stepAt row at m o
       by-run (u, t) =
           ⊎-elim
           (λ k. let h = is-told act.digit (figureIn (wordOf (cellOf row at))) mode.num k in
@@ -432,9 +435,29 @@ module _ (row : Row) (at m o p run : ℕ) (small : m < modeCount) (inside : at <
           mode-is mode.whole2 (h .2) ∙ told-capital row at m o (wordOf (cellOf row at)) refl (not-usual u) (deedOf m (classIn (wordOf (cellOf row at)))) refl (h .0) p (h .1))
           (λ k. let h = is-told act.lowerDigit (lowerIn (wordOf (cellOf row at))) mode.low k in
           mode-is mode.low (h .2) ∙ told-lower row at m o (wordOf (cellOf row at)) refl (not-usual u) (deedOf m (classIn (wordOf (cellOf row at)))) refl (h .0) p (h .1))
-          (either (told-as d q m act.capitalOfMany (capitalIn w) mode.whole2) (told-as d q m act.lowerDigit (lowerIn w) mode.low) k))
-          (either (told-as d q m act.digitUnder (figureIn w) mode.under) (told-as d q m act.capitalOfMany (capitalIn w) mode.whole2 || told-as d q m act.lowerDigit (lowerIn w) mode.low) k))
-          (either (told-as d q m act.digit (figureIn w) mode.num) (told-as d q m act.digitUnder (figureIn w) mode.under || (told-as d q m act.capitalOfMany (capitalIn w) mode.whole2 || told-as d q m act.lowerDigit (lowerIn w) mode.low)) t)
+          (either (told-as d q home act.capitalOfMany (capitalIn w) mode.whole2) (told-as d q home act.lowerDigit (lowerIn w) mode.low) k))
+          (either (told-as d q home act.digitUnder (figureIn w) mode.under) (told-as d q home act.capitalOfMany (capitalIn w) mode.whole2 || told-as d q home act.lowerDigit (lowerIn w) mode.low) k))
+          (either (told-as d q home act.digit (figureIn w) mode.num) (told-as d q home act.digitUnder (figureIn w) mode.under || (told-as d q home act.capitalOfMany (capitalIn w) mode.whole2 || told-as d q home act.lowerDigit (lowerIn w) mode.low)) t)
+
+-- the mode that it leaves is in the same run
+pub home-run : (m : ℕ) → runOf (homeOf m) ≡ runOf m
+unfolding runOf homeOf
+home-run m = go (eqb m mode.mid) refl
+  where
+    go : (b : Bool) → eqb m mode.mid ≡ b → runOf (cond b mode.num m) ≡ runOf m
+    go true e = sym (ap runOf (eqb→eq m mode.mid (subst T (sym e) tt)))
+    go false e = refl
+
+-- a cell that is a point or a comma inside a number, where a digit follows; the mode that it leaves is in the same run
+pub point-step : (row : Row) (at o x p : ℕ) → cellOf row at ≡ x → usualIn (wordOf x) mode.num ≡ false → act.point ≡ deedOf mode.num (classIn (wordOf x))
+    → p ≡ pointIn (wordOf x) → digitCell (cellOf row (at + 1)) ≡ true → variant.Sign noPoint p (at + 1) mode.mid o ≡ stepAt row at mode.num o
+point-step row at o x p e u told q f =
+    point-inside at o act.point (wordOf x) (cellOf row at) (cellOf row (at + 1)) (cellOf row (at + 2)) refl f p q
+    ∙ by-deed row at mode.num o (wordOf x) (ap wordOf (sym e)) u act.point told (askedBy act.point (wordOf x) (cellOf row at) (cellOf row (at + 1)) (cellOf row (at + 2))) refl
+
+pub in-number : (row : Row) (at m o : ℕ) (s : Step) → m ≡ mode.num → Quick row at mode.num mode.mid o s → InRun row at m o s
+unfolding runOf
+in-number row at m o s e q = (mode.mid, ap runOf (sym e), subst (λ (n : ℕ). Quick row at n mode.mid o s) (sym e) q)
 
 -- U+2014 behind another; a capital with its 46 behind another
 pub dash-step : (row : Row) (at o : ℕ) → cellOf row at ≡ dots 36 → cellOf row (at + 1) ≡ dots 36

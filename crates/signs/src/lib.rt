@@ -41,6 +41,7 @@ use readings::WHOLE2;
 use readings::capital_in;
 use readings::cells;
 use readings::cells::D2;
+use readings::cells::D3;
 use readings::cells::D6;
 use readings::cells::D36;
 use readings::cells::D46;
@@ -64,11 +65,11 @@ ghost use Rattle.rules.specs.Pairs.{kinds};
 ghost use Rattle.rules.specs.Refusals.{longestRow};
 ghost use Rattle.rules.proofs.Machine.{at-rest};
 ghost use Rattle.pairs.specs.Opened.{openStates};
-ghost use Rattle.readings.specs.Modes.{modeOf, modeCount, owing, dash};
+ghost use Rattle.readings.specs.Modes.{modeOf, modeCount, owing, num, mid, dash};
 ghost use Rattle.readings.specs.Fields.{pointIn, kindIn, usualIn, runPoint, cellOf};
 ghost use Rattle.readings.specs.Words.{wordOf};
 ghost use Rattle.readings.specs.Readings.{noPoint, usualBy, markStep, digitCell, stepOf, capitalBy, numberBy, percentBy, prefixBy, askedBy, stepAt};
-ghost use Rattle.signs.specs.Runs.{noRun, runOf, Quick};
+ghost use Rattle.signs.specs.Runs.{noRun, runOf, homeOf, Quick, InRun};
 
 // How many bits a cell's word has.
 const WORD_BITS: usize = 64;
@@ -88,8 +89,10 @@ const NO_CELL: u8 = 64;
 // "Cells are bytes 0 to 63"
 pub const LAST_CELL: u8 = 63;
 
-// The code points that a deed gives by itself.
+// The code points that a deed or a quick reading gives by itself.
 const FULL_STOP: u32 = 0x2e; // .
+
+const THE_COMMA: u32 = 0x2c; // ,
 
 const THE_ONE: u32 = 0x31; // 1
 
@@ -357,17 +360,28 @@ pub fn sign_at(row: &[u8], at: usize, word: u64, mode: usize, opened: usize) -> 
     }
 }
 
-// The run that a mode is in: more of its cells may follow, each one code point, and the mode stays.
+// The run that a mode is in: more of its cells may follow, each one code point. The points and commas inside a number are in its run.
 pub fn run_of(mode: usize) -> usize
     ensures { λ r. ⌜ r ≡ runOf mode ⌝ }
 {
     match mode {
         NUM => FIGURES,
+        MID => FIGURES,
         UNDER => FIGURES,
         WHOLE2 => CAPITALS,
         LOW => LOWERS,
         _ => NO_RUN,
     }
+}
+
+// The mode that a digit or a letter of its run leaves: the mode itself, and behind a point inside a number that of the number.
+fn home_of(mode: usize) -> usize
+    ensures { λ r. ⌜ r ≡ homeOf mode ⌝ }
+{
+    if mode == MID {
+        return NUM;
+    }
+    mode
 }
 
 // What a cell is in a run, or NO_POINT. (A run is below 64, so that the remainder is the run.)
@@ -377,26 +391,47 @@ fn run_point(cell: u8, run: usize) -> u32
     ((cells::run_word(cell) >> (run % WORD_BITS)) % POINT_PLACES) as u32
 }
 
-// A quick reading of a cell of the run that the mode is in.
+// A quick reading of a point or a comma behind a digit of a number: "any single full stop or comma that stands directly between two digits", so a digit has to
+// follow. Where none does, it says nothing.
+fn point_inside(row: &[u8], at: usize, cell: u8, opened: usize) -> Step
+    requires { ⌜ (length (now row) ≤ longestRow) × (at < length (now row)) × (cell ≡ cellOf (now row) at) ⌝ }
+    ensures { λ r. ⌜ Quick (now (row .entry)) at num mid opened r ⌝ }
+{
+    let follows = cell_at(row, at + 1);
+    if is_digit(follows) {
+        if cell == D3 {
+            return sign(FULL_STOP, at + 1, MID, opened);
+        }
+        if cell == D2 {
+            return sign(THE_COMMA, at + 1, MID, opened);
+        }
+    }
+    Step::Nothing
+}
+
+// A quick reading of a cell of the run that the mode is in: a digit or a letter, or a point inside a number.
 pub fn run_at(row: &[u8], at: usize, run: usize, mode: usize, opened: usize) -> Step
     requires { ⌜ (length (now row) ≤ longestRow) × (at < length (now row)) × (mode < modeCount) × (run ≡ runOf mode) × (run < noRun) ⌝ }
-    ensures { λ r. ⌜ Quick (now (row .entry)) at mode opened r ⌝ }
+    ensures { λ r. ⌜ InRun (now (row .entry)) at mode opened r ⌝ }
 {
     let cell = row[at];
     if LAST_CELL < cell {
         return Step::Nothing;
     }
     let point = run_point(cell, run);
-    if point == NO_POINT {
-        return Step::Nothing;
+    if point != NO_POINT {
+        return sign(point, at + 1, home_of(mode), opened);
     }
-    sign(point, at + 1, mode, opened)
+    if mode == NUM {
+        return point_inside(row, at, cell, opened);
+    }
+    Step::Nothing
 }
 
 // A quick reading of U+2014 behind another.
 pub fn dash_at(row: &[u8], at: usize, opened: usize) -> Step
     requires { ⌜ (length (now row) ≤ longestRow) × (at < length (now row)) ⌝ }
-    ensures { λ r. ⌜ Quick (now (row .entry)) at dash opened r ⌝ }
+    ensures { λ r. ⌜ Quick (now (row .entry)) at dash dash opened r ⌝ }
 {
     if cell_at(row, at) != D36 {
         return Step::Nothing;
@@ -410,7 +445,7 @@ pub fn dash_at(row: &[u8], at: usize, opened: usize) -> Step
 // A quick reading of a capital with its 46 behind another.
 pub fn owed_at(row: &[u8], at: usize, opened: usize) -> Step
     requires { ⌜ (length (now row) ≤ longestRow) × (at < length (now row)) ⌝ }
-    ensures { λ r. ⌜ Quick (now (row .entry)) at owing opened r ⌝ }
+    ensures { λ r. ⌜ Quick (now (row .entry)) at owing owing opened r ⌝ }
 {
     if cell_at(row, at) != D46 {
         return Step::Nothing;

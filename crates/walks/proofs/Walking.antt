@@ -20,7 +20,7 @@ use Rattle.pairs.specs.Opened.{openStates}
 use Rattle.readings.specs.Modes.{modeCount}
 use Rattle.readings.specs.Left.{left, addSign}
 use Rattle.readings.specs.Print.{points}
-use Rattle.signs.specs.Runs.{Quick}
+use Rattle.signs.specs.Runs.{runOf, Quick, InRun}
 use Rattle.readings.specs.declared.Step.{Step}
 use Rattle.readings.specs.declared.Step.the-variants as step
 use Rattle.readings.proofs.Turning.{Turn, turn-of}
@@ -157,14 +157,20 @@ runs-somewhere row stop at m o n w (runs-on ss k m' u c leads count wrote) e = l
 pub runs-forward : (row : Row) (stop at m o n : ℕ) {t t' : List ℕ} (w : Walked) → Runs row stop at m o n t t' w → {k n' u c : ℕ} → w ≡ On k n' u c → at ≤ k
 runs-forward row stop at m o n w (runs-on ss j m' v d leads count wrote) {k} e = let f : j ≡ k = cc in omega (arith, leads .next-is, f)
 
--- A QUICK READING that gives a sign is a turn
-pub quick-turn : (row : Row) (at m o : ℕ) → at < length row → m < modeCount → o < openStates → (s : Step) → Quick row at m o s
-    → (l p k n u : ℕ) → s ≡ step.Sign l p k n u → Turn row at m o l p k m o
-quick-turn row at m o inside small few s (inl e) l p k n u q = let z : _≡_ {A = ℕ} 0 1 = cc in absurd (omega arith)
-quick-turn row at m o inside small few s (inr h) l p k n u q =
-    let e : n ≡ m = cc in
+-- A QUICK READING that gives a sign is a turn; in a run the mode that it leaves is in the same run
+pub quick-turn : (row : Row) (at m m' o : ℕ) → at < length row → m < modeCount → o < openStates → (s : Step) → Quick row at m m' o s
+    → (l p k n u : ℕ) → s ≡ step.Sign l p k n u → (n ≡ m') × Turn row at m o l p k m' o
+quick-turn row at m m' o inside small few s (inl e) l p k n u q = let z : _≡_ {A = ℕ} 0 1 = cc in absurd (omega arith)
+quick-turn row at m m' o inside small few s (inr h) l p k n u q =
+    let e : n ≡ m' = cc in
     let f : u ≡ o = cc in
-    turn-of row at m o inside small few l p k m o (sym (h .0) ∙ q ∙ ap (λ (i : ℕ). step.Sign l p k i u) e ∙ ap (λ (i : ℕ). step.Sign l p k m i) f)
+    (e, turn-of row at m o inside small few l p k m' o (sym (h .0) ∙ q ∙ ap (λ (i : ℕ). step.Sign l p k i u) e ∙ ap (λ (i : ℕ). step.Sign l p k m' i) f))
+
+pub run-turn : (row : Row) (at m o : ℕ) → at < length row → m < modeCount → o < openStates → (s : Step) → InRun row at m o s
+    → (l p k n u : ℕ) → s ≡ step.Sign l p k n u → (runOf n ≡ runOf m) × Turn row at m o l p k n o
+run-turn row at m o inside small few s (m', e, h) l p k n u q =
+    let t = quick-turn row at m m' o inside small few s h l p k n u q in
+    subst (λ (i : ℕ). (runOf i ≡ runOf m) × Turn row at m o l p k i o) (sym (t .0)) (e, t .1)
 
 pub adds-some : (ss xs : List Sign) → addSigns ss (some xs) ≡ some (ss ++ xs)
 adds-some [] xs = refl

@@ -1,6 +1,7 @@
 // A walk over a part of a row, sign by sign. Between two signs it knows a mode and which pairs are open; both follow from the cells before. What is read is
 // written to a lent text, if there is room for it. What a walk finds is specs/Walks.antt.
 use readings::DASH;
+use readings::MID;
 use readings::NO_POINT;
 use readings::OWING;
 use readings::Step;
@@ -130,7 +131,7 @@ fn capitals(
     }
 }
 
-// The digits of a number, the letters of a run of capitals, lower digits: as many as follow.
+// The digits of a number with the points and commas between them, the letters of a run of capitals, lower digits: as many as follow.
 fn run(
     row: &[u8],
     from: usize,
@@ -144,6 +145,7 @@ fn run(
     ensures { λ r. ⌜ Runs (now (row .entry)) stop from begun unclosed counted (now (text .entry)) (now (text .exit)) r ⌝ }
 {
     let field = signs::run_of(begun);
+    let mut mode_now: usize = begun;
     let mut at: usize = from;
     let mut count: usize = counted;
     while at < stop {
@@ -151,29 +153,30 @@ fn run(
             lead,
             point,
             next,
-            mode: _,
+            mode: mode_after,
             opened: _,
-        } = signs::run_at(row, at, field, begun, unclosed)
+        } = signs::run_at(row, at, field, mode_now, unclosed)
         else {
             return Walked::On {
                 at,
-                mode: begun,
+                mode: mode_now,
                 opened: unclosed,
                 count,
             };
         };
         count = put(text, count, lead, point);
+        mode_now = mode_after;
         at = next;
     }
     Walked::On {
         at,
-        mode: begun,
+        mode: mode_now,
         opened: unclosed,
         count,
     }
 }
 
-// What follows alike, by the mode that the last sign found and left.
+// What follows alike, by the mode that the last sign left.
 fn alike(
     row: &[u8],
     from: usize,
@@ -205,7 +208,8 @@ fn alike(
 
 // "each step gives the print of the next sign and the place after it." From a place, where a sign starts, with what the signs before it leave (`begun` is the
 // mode, `unclosed` are the open pairs), as long as the next sign starts before the place `stop`. Their print is written from the first element on, if there
-// is room. A sign that leaves the mode as it found it may be one of many: those that follow alike are read at once.
+// is room. A sign that leaves the mode as it found it may be one of many, and behind a point inside a number stands a digit: those that follow alike are read at
+// once.
 pub fn walk(
     row: &[u8],
     from: usize,
@@ -254,7 +258,7 @@ pub fn walk(
                 return Walked::Nowhere;
             };
             count = put(text, count, lead, point);
-            if mode_after == mode {
+            if mode_after == mode || mode_after == MID {
                 let Walked::On {
                     at: at_last,
                     mode: mode_last,

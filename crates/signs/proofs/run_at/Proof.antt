@@ -1,13 +1,19 @@
--- `run_at`: a cell that has the run's field is read as the table says (`run-step`). Assumes nothing.
+-- `run_at`: a cell that has the run's field is read as the table says (`run-step`), and leaves the run's own mode; in a number a point is read as
+-- `point_inside` does. Assumes nothing.
 use mathlib.Core.Logic.{inl, inr}
-use mathlib.Core.Path.{refl, _∙_}
-use Prim.Native.Nat.{_+_}
-use Rattle.signs.proofs.Cases.{run-step}
+use mathlib.Core.Path.{_≡_, refl, ap, _∙_}
+use Prim.Native.Nat.{ℕ, _+_}
+use Rattle.readings.specs.Readings.{noPoint}
+use Rattle.readings.specs.declared.Step.the-variants.{Sign}
+use Rattle.signs.specs.Runs.{homeOf}
+use Rattle.signs.proofs.Cases.{cell-low, run-step, home-run, in-number}
 use borrow.Author.Needs.{needs}
 use Rattle.signs.proofs.run_at.Statement.{statement}
 use Rattle.signs.proofs.run_at.Tie as tie
 use Rattle.signs.proofs.run_at.Reads as reads
 use Rattle.signs.proofs.run_at.Lts as lts
+use Rattle.signs.proofs.home_of.Reads as home-of-reads
+use Rattle.signs.proofs.point_inside.Reads as point-inside-reads
 use Rattle.signs.proofs.run_point.Reads as run-point-reads
 use Rattle.signs.proofs.sign.Reads as sign-reads
 
@@ -15,30 +21,50 @@ shared-slice-read-cell : tie.Need-shared-slice-read-cell
 shared-slice-read-cell c = search needs
 
 returns : tie.Need-returns
-returns c = inl refl
+returns c = (_, refl, inl refl)
 
 run-point-requires : tie.Need-run-point-requires
 run-point-requires c κs = search needs
 
-returns-2 : tie.Need-returns-2
-returns-2 c = inl refl
-
 add-sign : tie.Need-add-sign
 add-sign c = search needs
+
+home-of-requires : tie.Need-home-of-requires
+home-of-requires c κs = search needs
 
 sign-requires : tie.Need-sign-requires
 sign-requires c κs = search needs
 
+returns-2 : tie.Need-returns-2
+returns-2 c =
+    let h = c .before in
+    let k = h .before in
+    let p = k .before in
+    let s = p .before .before .before .before in
+    let e : c .sign .result ≡ Sign noPoint (p .run-point .result) (s .args .at + 1) (homeOf (s .args .mode)) (s .args .opened) =
+    c .sign .ensures ∙ ap (λ (n : ℕ). Sign noPoint (p .run-point .result) (s .args .at + 1) n (s .args .opened)) (h .home-of .ensures) in (
+      homeOf (s .args .mode),
+      home-run (s .args .mode),
+      inr (
+        e ∙ run-step (s .args .row .now) (s .args .at) (s .args .mode) (s .args .opened) (p .run-point .result) (s .args .run) (s .pre .2) (s .pre .1) (p .before .if1 .left) (s .pre .3) (s .pre .4) (p .run-point .ensures) (k .if2 .taken),
+        (p .run-point .result, s .args .at + 1, e),
+      ),
+    )
+
+point-inside-requires : tie.Need-point-inside-requires
+point-inside-requires c κs =
+    let p = c .before .before in
+    let s = p .before .before .before .before in
+    (s .pre .0, s .pre .1, cell-low (s .args .row .now) (s .args .at) (s .pre .1) (p .before .if1 .left))
+
 returns-3 : tie.Need-returns-3
 returns-3 c =
     let k = c .before in
-    let p = k .before in
-    let s = p .before .before .before .before in
-    inr (
-      c .sign .ensures
-          ∙ run-step (s .args .row .now) (s .args .at) (s .args .mode) (s .args .opened) (p .run-point .result) (s .args .run) (s .pre .2) (s .pre .1) (p .before .if1 .left) (s .pre .3) (s .pre .4) (p .run-point .ensures) (k .if2 .left),
-      (p .run-point .result, s .args .at + 1, c .sign .ensures),
-    )
+    let s = k .before .before .before .before .before .before in
+    in-number (s .args .row .now) (s .args .at) (s .args .mode) (s .args .opened) (c .point-inside .result) (k .if3 .taken) (c .point-inside .ensures)
+
+returns-4 : tie.Need-returns-4
+returns-4 c = (_, refl, inl refl)
 
 pub run-at-spec : {M : Type 1} → statement M
 run-at-spec =
@@ -47,7 +73,10 @@ run-at-spec =
     shared-slice-read-cell
     returns
     run-point-requires
-    returns-2
     add-sign
+    home-of-requires
     sign-requires
-    returns-3)
+    returns-2
+    point-inside-requires
+    returns-3
+    returns-4)

@@ -14,4 +14,5 @@ run-of-spec =
     (λ c. sym (ap runOf (c .match .keys2)))
     (λ c. sym (ap runOf (c .match .keys3)))
     (λ c. sym (ap runOf (c .match .keys4)))
+    (λ c. sym (ap runOf (c .match .keys5)))
     (λ c. sym (chosen-rest runs (c .before .args .mode) noRun (c .match .rest))))

@@ -43,8 +43,8 @@ turn : (k : K) → let i = in-k k in
     Turn (row i) (i .before .loop .at) dash (start i .args .unclosed) (k .before .lead .given .0 .0) (k .before .lead .given .0 .1 .0) (k .before .lead .given .0 .1 .1 .0) dash (start i .args .unclosed)
 turn k =
     let i = in-k k in
-    quick-turn (row i) (i .before .loop .at) dash (start i .args .unclosed) (inside i) (i .before .loop .inv .leads .mode) (i .before .loop .inv .leads .opens) _
-    (k .before .before .before .dash-at .ensures) _ _ _ _ _ (k .before .lead .given .1)
+    quick-turn (row i) (i .before .loop .at) dash dash (start i .args .unclosed) (inside i) (i .before .loop .inv .leads .mode) (i .before .loop .inv .leads .opens) _
+    (k .before .before .before .dash-at .ensures) _ _ _ _ _ (k .before .lead .given .1) .1
 
 loop-holds : tie.Need-loop-holds Inv-loop μ-loop
 loop-holds c =

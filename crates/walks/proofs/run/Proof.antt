@@ -1,12 +1,13 @@
--- `run`: each sign is a turn of the walk, in the mode of the run (`Mid`). The measure is what is left of the row. Assumes nothing.
+-- `run`: each sign is a turn of the walk, in a mode of the run (`Mid`, `run-turn`). The measure is what is left of the row. Assumes nothing.
 use mathlib.Core.List.{List}
+use mathlib.Core.Path.{_≡_, sym, _∙_}
 use Prim.Native.Nat.{ℕ, _-_, _<_}
 use native.Mathlib.Omega.{arith}
 use borrow.Author.Needs.{needs}
 use lib.ListN.{length}
-use Rattle.signs.specs.Runs.{noRun}
+use Rattle.signs.specs.Runs.{noRun, runOf}
 use Rattle.readings.proofs.Turning.{Turn}
-use Rattle.walks.proofs.Walking.{Mid, mid-start, mid-most, mid-on, mid-runs, quick-turn}
+use Rattle.walks.proofs.Walking.{Mid, mid-start, mid-most, mid-on, mid-runs, run-turn}
 use Rattle.walks.proofs.run.Statement.{statement}
 use Rattle.walks.proofs.run.Tie as tie
 use Rattle.walks.proofs.run.Reads as reads
@@ -16,10 +17,11 @@ use Rattle.signs.proofs.run_at.Reads as run-at-reads
 use Rattle.signs.proofs.run_of.Reads as run-of-reads
 
 abbrev Inv-loop : tie.InvT-loop
-Inv-loop row from stop begun unclosed text₀ counted field at₀ count₀ text at count = Mid row stop from begun unclosed counted text₀ text begun unclosed count at
+Inv-loop row from stop begun unclosed text₀ counted field mode₀ at₀ count₀ text mode at count =
+    Mid row stop from begun unclosed counted text₀ text mode unclosed count at × (field ≡ runOf mode)
 
 abbrev μ-loop : tie.MeasureT-loop
-μ-loop row from stop begun unclosed text₀ counted field at₀ count₀ text at count = length row - at
+μ-loop row from stop begun unclosed text₀ counted field mode₀ at₀ count₀ text mode at count = length row - at
 
 -- THE PLACES: a turn begins; the sign is known
 abbrev I : Type 0
@@ -40,11 +42,15 @@ K = tie.After-known-told Inv-loop μ-loop
 abbrev in-k : K → I
 in-k k = k .before .before .before .before
 
+abbrev mode-after : K → ℕ
+mode-after k = k .before .lead .given .0 .1 .1 .1 .0
+
 turn : (k : K) → let i = in-k k in
-    Turn (row i) (i .before .loop .at) (start i .args .begun) (start i .args .unclosed) (k .before .lead .given .0 .0) (k .before .lead .given .0 .1 .0) (k .before .lead .given .0 .1 .1 .0) (start i .args .begun) (start i .args .unclosed)
+    (runOf (mode-after k) ≡ runOf (i .before .loop .mode-now))
+    × Turn (row i) (i .before .loop .at) (i .before .loop .mode-now) (start i .args .unclosed) (k .before .lead .given .0 .0) (k .before .lead .given .0 .1 .0) (k .before .lead .given .0 .1 .1 .0) (mode-after k) (start i .args .unclosed)
 turn k =
     let i = in-k k in
-    quick-turn (row i) (i .before .loop .at) (start i .args .begun) (start i .args .unclosed) (inside i) (i .before .loop .inv .leads .mode) (i .before .loop .inv .leads .opens) _
+    run-turn (row i) (i .before .loop .at) (i .before .loop .mode-now) (start i .args .unclosed) (inside i) (i .before .loop .inv .0 .leads .mode) (i .before .loop .inv .0 .leads .opens) _
     (k .before .before .before .run-at .ensures) _ _ _ _ _ (k .before .lead .given .1)
 
 run-of-requires : tie.Need-run-of-requires Inv-loop μ-loop
@@ -53,12 +59,12 @@ run-of-requires c κs = search needs
 loop-holds : tie.Need-loop-holds Inv-loop μ-loop
 loop-holds c =
     let s = c .before .before .before in
-    mid-start (s .args .row .now) (s .args .stop) (s .args .from) (s .args .begun) (s .args .unclosed) (s .args .counted) (s .args .text .now) (s .pre .1) (s .pre .3) (s .pre .4)
+    (mid-start (s .args .row .now) (s .args .stop) (s .args .from) (s .args .begun) (s .args .unclosed) (s .args .counted) (s .args .text .now) (s .pre .1) (s .pre .3) (s .pre .4), c .run-of .ensures)
 
 run-at-requires : tie.Need-run-at-requires Inv-loop μ-loop
 run-at-requires c κs =
     let o = c .before .before in
-    (start c .pre .0, inside c, start c .pre .3, o .run-of .ensures, omega (arith, o .run-of .ensures, start c .pre .6))
+    (start c .pre .0, inside c, c .before .loop .inv .0 .leads .mode, c .before .loop .inv .1, omega (arith, o .run-of .ensures, start c .pre .6))
 
 enum-known-lead : tie.Need-enum-known-lead Inv-loop μ-loop
 enum-known-lead c = search needs
@@ -67,28 +73,29 @@ enum-told : tie.Need-enum-told Inv-loop μ-loop
 enum-told c = search needs
 
 same-length : tie.Need-same-length Inv-loop μ-loop
-same-length c = c .before .before .before .before .loop .inv .wrote .0
+same-length c = c .before .before .before .before .loop .inv .0 .wrote .0
 
 returns : tie.Need-returns Inv-loop μ-loop
-returns c = mid-runs (c .before .before .before .before .loop .inv)
+returns c = mid-runs (c .before .before .before .before .loop .inv .0)
 
 put-requires : tie.Need-put-requires Inv-loop μ-loop
-put-requires c κs = let i = in-k (c .before) in mid-most (i .before .loop .inv) (start i .pre .0) (start i .pre .5)
+put-requires c κs = let i = in-k (c .before) in mid-most (i .before .loop .inv .0) (start i .pre .0) (start i .pre .5)
 
 loop-less : tie.Need-loop-less Inv-loop μ-loop
-loop-less c = let t = turn (c .before .before .before .before) in omega (arith, t .forward, t .within)
+loop-less c = let t = turn (c .before .before .before .before) .1 in omega (arith, t .forward, t .within)
 
 loop-again : tie.Need-loop-again Inv-loop μ-loop
 loop-again c =
     let p = c .before .before in
     let k = p .before .before in
-    mid-on (in-k k .before .loop .inv) (turn k) (in-k k .loop-test .taken) (p .put .ensures)
+    let l = in-k k .before in
+    (mid-on (l .loop .inv .0) (turn k .1) (in-k k .loop-test .taken) (p .put .ensures), l .loop .inv .1 ∙ sym (turn k .0))
 
 same-length-2 : tie.Need-same-length-2 Inv-loop μ-loop
-same-length-2 c = c .before .loop .inv .wrote .0
+same-length-2 c = c .before .loop .inv .0 .wrote .0
 
 returns-2 : tie.Need-returns-2 Inv-loop μ-loop
-returns-2 c = mid-runs (c .before .loop .inv)
+returns-2 c = mid-runs (c .before .loop .inv .0)
 
 pub run-spec : {M : Type 1} → statement M
 run-spec =
