@@ -5,8 +5,8 @@ use mathlib.Core.Option.{Option, none, some}
 use Prim.Native.Nat.{ℕ, _+_, _≤_, _<_}
 use native.Mathlib.Omega.{arith}
 use native.Mathlib.Nat.{min-eq-left}
-use lib.ListN.{length, getD}
-use Rattle.rules.specs.Cells.{Text, Row, lastCell}
+use lib.ListN.{length}
+use Rattle.rules.specs.Cells.{Text, Row}
 use Rattle.rules.specs.Signs.{Sign, printOf}
 use Rattle.rules.specs.Rows.{Reads}
 use Rattle.rules.specs.Refusals.{tooLong, needsRoom, notACell, noText, longestText, longestRow, reported}
@@ -31,12 +31,15 @@ module _ (r : Row) where
   pub row-long : (n : ℕ) → longestRow < length r → n ≡ reported (length r) → RefusesRow castilian r (TooLong n)
   row-long n l e = (tooLong n, refl, subst (λ (k : ℕ). RowRefused castilian r (tooLong k)) (sym e) (long-row l))
 
+  pub row-no-text : ProperRow r → ((t : Text) → Reads castilian r t → ⊥) → RefusesRow castilian r NoText
+  row-no-text proper none-reads = (noText, refl, no-text proper none-reads)
+
   module _ (short : length r ≤ longestRow) where
     pub row-not-cells : (n : ℕ) → FirstHigh r n → n < length r → RefusesRow castilian r (NotACell n)
     row-not-cells n f l = (notACell n, refl, not-a-cell n short l (f .there l) (f .below))
 
-    pub row-no-text : ((m : ℕ) → m < length r → getD r m 0 ≤ lastCell) → ((t : Text) → Reads castilian r t → ⊥) → RefusesRow castilian r NoText
-    row-no-text cells none-reads = (noText, refl, no-text (record { short = short; cells = cells }) none-reads)
+    pub row-proper : (n : ℕ) → FirstHigh r n → length r ≤ n → ProperRow r
+    row-proper n f all = record { short = short; cells = λ m h. f .below m (omega (arith, h, all)) }
 
     -- a row that has a text is of cells
     proper : (t : Text) → Reads castilian r t → ProperRow r

@@ -1,7 +1,7 @@
 // Cells to print. `read` reads a whole row, `step` gives the sign at a place of one; what they promise is specs/Promise.antt.
 // One loop walks the row sign by sign (crates/walks). Between two signs it knows a mode and which pairs are open; both follow from the cells before, and neither is kept
-// from one call to the next. The row is walked once. `read` has a draft written, a text of its own, and copies it to the lent text when all is known to fit: so
-// nothing is written before. `step` walks in three parts: up to its place, over the sign there, and to the end.
+// from one call to the next. The row is walked once. `read` asks first for a byte that is no cell, has a draft written, a text of its own, and copies it to the
+// lent text when all is known to fit: so nothing is written before. `step` walks in three parts: up to its place, over the sign there, and to the end.
 use readings::FREE;
 use readings::NO_POINT;
 use signs::LAST_CELL;
@@ -17,6 +17,7 @@ ghost use Rattle.rules.specs.Cells.{Text};
 ghost use Rattle.rules.specs.Castilian.{castilian};
 ghost use Rattle.rules.specs.Rows.{Reads};
 ghost use Rattle.rules.specs.Refusals.{longestRow, longestText, reported};
+ghost use Rattle.rules.specs.Answers.{ProperRow};
 ghost use Rattle.rules.proofs.Machine.{at-rest};
 ghost use Rattle.rows.specs.Laid.{laid};
 ghost use Rattle.readings.specs.Modes.{modeOf, modeCount};
@@ -95,10 +96,13 @@ fn greatest(row: &[u8]) -> u8
     most
 }
 
-// The place of the first byte above 63, or the row's length.
+// The place of the first byte above 63, or the row's length. (Few rows have one, and the greatest byte says so fastest.)
 fn first_high(row: &[u8]) -> usize
     ensures { λ r. ⌜ FirstHigh (now (row .entry)) r ⌝ }
 {
+    if greatest(row) <= LAST_CELL {
+        return row.len();
+    }
     let mut place: usize = 0;
     while place < row.len() {
         if LAST_CELL < row[place] {
@@ -114,9 +118,6 @@ fn unread(row: &[u8]) -> Answer
     requires { ⌜ (length (now row) ≤ longestRow) × ((t : Text) → Reads castilian (now row) t → ⊥) ⌝ }
     ensures { λ r. ⌜ RefusesRow castilian (now (row .entry)) r ⌝ }
 {
-    if greatest(row) <= LAST_CELL {
-        return Answer::NoText;
-    }
     let place = first_high(row);
     if place < row.len() {
         return Answer::NotACell(place);
@@ -136,10 +137,10 @@ fn copy(draft: &[u32], text: &mut [u32])
     }
 }
 
-// Reads a row by way of a draft, which has room for any text of the row, or for the longest that is accepted. The walk is lent nothing that the caller lent, so a
-// refusal leaves that as it was. (One walk and a copy are faster than two walks, the first without room.)
+// Reads a row of cells by way of a draft, which has room for any text of the row, or for the longest that is accepted. The walk is lent nothing that the caller
+// lent, so a refusal leaves that as it was. (One walk and a copy are faster than two walks, the first without room.)
 fn read_by(row: &[u8], draft: &mut [u32], text: &mut [u32]) -> Answer
-    requires { ⌜ (length (now row) ≤ longestRow) × ((2 * length (now row) ≤ length (now draft)) ⊎ (longestText ≤ length (now draft))) ⌝ }
+    requires { ⌜ ProperRow (now row) × ((2 * length (now row) ≤ length (now draft)) ⊎ (longestText ≤ length (now draft))) ⌝ }
     ensures { λ r. ⌜ Read castilian (now (row .entry)) (now (text .entry)) r (now (text .exit)) ⌝ }
 {
     let walked = walk(row, 0, row.len(), FREE, 0, draft);
@@ -150,10 +151,10 @@ fn read_by(row: &[u8], draft: &mut [u32], text: &mut [u32]) -> Answer
         count,
     } = walked
     else {
-        return unread(row);
+        return Answer::NoText;
     };
     if !ends(mode, opened) {
-        return unread(row);
+        return Answer::NoText;
     }
     if LONGEST_TEXT < count {
         return Answer::TooLong(count);
@@ -167,12 +168,16 @@ fn read_by(row: &[u8], draft: &mut [u32], text: &mut [u32]) -> Answer
 
 // Cells to print: the answer of the rules for any row and any lent text, which then holds the text from its first element on and is otherwise as it was.
 // Two wrong programs that the promise shuts out: one that says that every row has no text, and one that writes before it knows that the row has one.
-// (A draft is cleared before it is used, so a short row has a short one.)
+// (A row with a byte that is no cell is not walked for nothing. A draft is cleared before it is used, so a short row has a short one.)
 pub fn read(row: &[u8], text: &mut [u32]) -> Answer
     ensures { λ r. ⌜ Read castilian (now (row .entry)) (now (text .entry)) r (now (text .exit)) ⌝ }
 {
     if LONGEST_ROW < row.len() {
         return Answer::TooLong(reported_length(row.len()));
+    }
+    let high = first_high(row);
+    if high < row.len() {
+        return Answer::NotACell(high);
     }
     if row.len() <= SHORT_ROW {
         let mut draft = [NO_POINT; SHORT_DRAFT];
