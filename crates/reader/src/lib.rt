@@ -1,7 +1,7 @@
-// Cells to print. `read` reads a whole row, `step` gives the sign at a place of one; what they promise is specs/Promise.antt.
+// Cells to print: `read` reads a whole row; what it promises is specs/Promise.antt. (The sign at one place of a row: crates/stepper.)
 // One loop walks the row sign by sign (crates/walks). Between two signs it knows a mode and which pairs are open; both follow from the cells before, and neither is kept
 // from one call to the next. The row is walked once. `read` asks first for a byte that is no cell, has a draft written, a text of its own, and copies it to the
-// lent text when all is known to fit: so nothing is written before. `step` walks in three parts: up to its place, over the sign there, and to the end.
+// lent text when all is known to fit: so nothing is written before.
 use readings::FREE;
 use readings::NO_POINT;
 use signs::LAST_CELL;
@@ -10,19 +10,17 @@ use walks::walk;
 ghost use mathlib.Core.Bool.{_&&_};
 ghost use mathlib.Core.Logic.{_⊎_};
 ghost use mathlib.Core.Path.{_≡_};
-ghost use Prim.Native.Nat.{ℕ, _+_, _*_, _≤_, _<_};
+ghost use Prim.Native.Nat.{ℕ, _*_, _≤_, _<_};
 ghost use lib.Dec.{eqb};
 ghost use lib.ListN.{length, getD};
-ghost use Rattle.rules.specs.Cells.{Text};
 ghost use Rattle.rules.specs.Castilian.{castilian};
-ghost use Rattle.rules.specs.Rows.{Reads};
-ghost use Rattle.rules.specs.Refusals.{longestRow, longestText, reported};
+ghost use Rattle.rules.specs.Refusals.{longestText, reported};
 ghost use Rattle.rules.specs.Answers.{ProperRow};
 ghost use Rattle.rules.proofs.Machine.{at-rest};
 ghost use Rattle.rows.specs.Laid.{laid};
 ghost use Rattle.readings.specs.Modes.{modeOf, modeCount};
-ghost use Rattle.reader.specs.Promise.{Read, Shows};
-ghost use Rattle.reader.specs.Passes.{FirstHigh, RefusesRow};
+ghost use Rattle.reader.specs.Promise.{Read};
+ghost use Rattle.reader.specs.Passes.{FirstHigh};
 
 // The answer to a row. `Done` has the count of code points written; any other is a refusal, and the lent text is then as it was. Paper 01's number and
 // second number for each are given by `Promise.refusalOf`.
@@ -38,18 +36,10 @@ pub enum Answer {
     NeedsRoom(usize),
 }
 
-// What a step shows: the print of the sign that starts at the place, and the place after it (`lead` is NO_POINT where the sign has one code point); no code
-// point, and the place stays; or a refusal, and the place stays.
-pub enum Shown {
-    Sign { lead: u32, point: u32, next: usize },
-    Still,
-    Refused(Answer),
-}
-
 // "a row above 12,288 cells", "a text above 4,096"
-const LONGEST_ROW: usize = 12288;
+pub const LONGEST_ROW: usize = 12288;
 
-const LONGEST_TEXT: usize = 4096;
+pub const LONGEST_TEXT: usize = 4096;
 
 // Rows that are read by way of a shorter draft: a row has at most two code points for each cell.
 const SHORT_ROW: usize = 64;
@@ -63,14 +53,14 @@ const MIDDLE_DRAFT: usize = 1024;
 // "A length above 4,294,967,295 is reported as that number."
 const MOST_REPORTED: usize = 4294967295;
 
-fn reported_length(n: usize) -> usize
+pub fn reported_length(n: usize) -> usize
     ensures { λ r. ⌜ r ≡ reported n ⌝ }
 {
     if n <= MOST_REPORTED { n } else { MOST_REPORTED }
 }
 
 // May a text end here: is what was begun whole, and no pair open?
-fn ends(mode: usize, opened: usize) -> bool
+pub fn ends(mode: usize, opened: usize) -> bool
     requires { ⌜ mode < modeCount ⌝ }
     ensures { λ r. ⌜ r ≡ (at-rest (modeOf mode) && eqb opened 0) ⌝ }
 {
@@ -97,7 +87,7 @@ fn greatest(row: &[u8]) -> u8
 }
 
 // The place of the first byte above 63, or the row's length. (Few rows have one, and the greatest byte says so fastest.)
-fn first_high(row: &[u8]) -> usize
+pub fn first_high(row: &[u8]) -> usize
     ensures { λ r. ⌜ FirstHigh (now (row .entry)) r ⌝ }
 {
     if greatest(row) <= LAST_CELL {
@@ -111,18 +101,6 @@ fn first_high(row: &[u8]) -> usize
         place += 1;
     }
     place
-}
-
-// Why a row has no text: a byte of it is no cell, or no text of any length has these cells.
-fn unread(row: &[u8]) -> Answer
-    requires { ⌜ (length (now row) ≤ longestRow) × ((t : Text) → Reads castilian (now row) t → ⊥) ⌝ }
-    ensures { λ r. ⌜ RefusesRow castilian (now (row .entry)) r ⌝ }
-{
-    let place = first_high(row);
-    if place < row.len() {
-        return Answer::NotACell(place);
-    }
-    Answer::NoText
 }
 
 // A draft, to the front of the lent text.
@@ -189,105 +167,4 @@ pub fn read(row: &[u8], text: &mut [u32]) -> Answer
     }
     let mut draft = [NO_POINT; LONGEST_TEXT];
     read_by(row, &mut draft, text)
-}
-
-// Up to where a step walks before the sign at its place.
-fn stop_before(place: usize, end: usize) -> usize
-    ensures { λ r. ⌜ ((place < end) × (r ≡ place)) ⊎ ((end ≤ place) × (r ≡ end)) ⌝ }
-{
-    if place < end { place } else { end }
-}
-
-// Up to where it walks for that sign, from where it came to: one place on, if that is the place and the row goes on there.
-fn stop_behind(at: usize, place: usize, end: usize) -> usize
-    ensures { λ r. ⌜ ((at ≡ place) × (at < end) × (r ≡ at + 1)) ⊎ (((at ≡ place) → end ≤ at) × (r ≡ at)) ⌝ }
-{
-    if at == place {
-        if at < end {
-            return at + 1;
-        }
-    }
-    at
-}
-
-// The proofing screen's step: "What a step gives follows from the row and the place alone." The row is walked once.
-// Two wrong programs that the promise shuts out: one that shows a sign of a row that is not accepted, and one that shows the print of the sign before.
-pub fn step(row: &[u8], place: usize) -> Shown
-    ensures { λ r. ⌜ Shows castilian (now (row .entry)) place r ⌝ }
-{
-    if LONGEST_ROW < row.len() {
-        return Shown::Refused(Answer::TooLong(reported_length(row.len())));
-    }
-    let mut no_room = [NO_POINT; 1];
-    let Walked::On {
-        at,
-        mode,
-        opened,
-        count: count_before,
-    } = walk(
-        row,
-        0,
-        stop_before(place, row.len()),
-        FREE,
-        0,
-        &mut no_room[..0],
-    )
-    else {
-        return Shown::Refused(unread(row));
-    };
-    let mut print = [NO_POINT; 2];
-    let Walked::On {
-        at: next,
-        mode: mode_after,
-        opened: opened_after,
-        count: width,
-    } = walk(
-        row,
-        at,
-        stop_behind(at, place, row.len()),
-        mode,
-        opened,
-        &mut print,
-    )
-    else {
-        return Shown::Refused(unread(row));
-    };
-    let Walked::On {
-        at: _,
-        mode: mode_last,
-        opened: opened_last,
-        count: count_after,
-    } = walk(
-        row,
-        next,
-        row.len(),
-        mode_after,
-        opened_after,
-        &mut no_room[..0],
-    )
-    else {
-        return Shown::Refused(unread(row));
-    };
-    if !ends(mode_last, opened_last) {
-        return Shown::Refused(unread(row));
-    }
-    let count = count_before + width + count_after;
-    if LONGEST_TEXT < count {
-        return Shown::Refused(Answer::TooLong(count));
-    }
-    if next == at {
-        return Shown::Still;
-    }
-    if width == 1 {
-        return Shown::Sign {
-            lead: NO_POINT,
-            point: print[0],
-            next,
-        };
-    }
-    Shown::Sign {
-        lead: print[0],
-        point: print[1],
-        next,
-    }
 }

@@ -1,4 +1,4 @@
--- `step`: three walks, one behind the other, go over the row once (`Parts`): they say whether it has a text, how long that is, and which sign starts at the
+-- `step`: three walks, one behind the other, go over the row once (`Seeing`): they say whether it has a text, how long that is, and which sign starts at the
 -- place. Assumes nothing.
 use mathlib.Core.Bool.{true, _&&_}
 use mathlib.Core.Path.{_≡_, sym, _∙_}
@@ -12,20 +12,22 @@ use Rattle.rules.specs.Refusals.{longestRow}
 use Rattle.rules.proofs.Machine.{at-rest}
 use Rattle.readings.specs.Modes.{modeOf}
 use Rattle.readings.specs.Left.{left}
 use Rattle.reader.proofs.Whole.{left-none, Told}
-use Rattle.reader.proofs.Parts.{not-so, so, Went, went, lost, not-to-end, lost-behind, few-parts, told-parts, no-sign-seen, sign-seen, one-point, two-points}
+use Rattle.reader.proofs.Parts.{not-so, so, Went, went, lost, not-to-end}
 use Rattle.walks.proofs.Walking.{leads-nowhere}
-use Rattle.reader.proofs.Answering.{row-long, row-long-text, step-still, step-sign, step-refused}
+use Rattle.reader.proofs.Answering.{row-long, row-long-text}
+use Rattle.stepper.proofs.Seeing.{lost-behind, few-parts, told-parts, no-sign-seen, sign-seen, one-point, two-points}
+use Rattle.stepper.proofs.Answering.{step-still, step-sign, step-refused}
 use borrow.Author.Needs.{needs}
-use Rattle.reader.proofs.step.Statement.{statement}
-use Rattle.reader.proofs.step.Tie as tie
-use Rattle.reader.proofs.step.Reads as reads
-use Rattle.reader.proofs.step.Lts as lts
+use Rattle.stepper.proofs.step.Statement.{statement}
+use Rattle.stepper.proofs.step.Tie as tie
+use Rattle.stepper.proofs.step.Reads as reads
+use Rattle.stepper.proofs.step.Lts as lts
 use Rattle.reader.proofs.ends.Reads as ends-reads
 use Rattle.reader.proofs.reported_length.Reads as reported-length-reads
-use Rattle.reader.proofs.stop_before.Reads as stop-before-reads
-use Rattle.reader.proofs.stop_behind.Reads as stop-behind-reads
-use Rattle.reader.proofs.unread.Reads as unread-reads
+use Rattle.stepper.proofs.stop_before.Reads as stop-before-reads
+use Rattle.stepper.proofs.stop_behind.Reads as stop-behind-reads
+use Rattle.stepper.proofs.unread.Reads as unread-reads
 use Rattle.walks.proofs.walk.Reads as walk-reads
 
 abbrev row : tie.Start → List ℕ
