@@ -1,7 +1,7 @@
 -- What a walk over a part of a row tells. In order: what any walk tells; one to the row's end; one over the whole row, and what it wrote. All over plain values.
 -- Assumes nothing.
-use mathlib.Core.Path.{_≡_, refl, sym, ap, _∙_, subst}
-use mathlib.Core.Bool.{Bool, true, false, _&&_, not, cond}
+use mathlib.Core.Path.{_≡_, sym, ap, _∙_, subst}
+use mathlib.Core.Bool.{Bool, true, false, _&&_, cond}
 use mathlib.Core.List.{List, [], append-nil}
 use mathlib.Core.Logic.{_⊎_, ⊎-elim}
 use mathlib.Core.Option.{none, some}
@@ -22,15 +22,6 @@ use Rattle.walks.specs.declared.Walked.{Walked}
 use Rattle.walks.specs.declared.Walked.the-variants.{On, Nowhere}
 use Rattle.walks.proofs.Walking.{adds-some, adds-none, leads-few}
 use Rattle.reader.proofs.Whole.{Told}
-
--- tests the other way round
-pub not-so : (b : Bool) → not b ≡ true → b ≡ false
-not-so true e = sym e
-not-so false e = refl
-
-pub so : (b : Bool) → not b ≡ false → b ≡ true
-so true e = refl
-so false e = sym e
 
 -- WHAT ONE WALK TELLS
 pub record Went (row : Row) (stop at m o k n u c : ℕ) : Type 0 where

@@ -15,9 +15,10 @@ use Rattle.walks.specs.Walks.{Wrote}
 use Rattle.reader.specs.Promise.{Read}
 use Rattle.reader.specs.declared.Answer.the-variants.{NoText}
 use Rattle.reader.proofs.Whole.{left-none, Told}
-use Rattle.reader.proofs.Parts.{not-so, so, Went, went, lost, not-to-end, told-whole, room-whole, written-whole}
+use Rattle.reader.proofs.Parts.{Went, went, lost, not-to-end, told-whole, room-whole, written-whole}
 use Rattle.reader.proofs.Answering.{row-no-text, row-long-text, read-cramped, read-done, read-refused}
 use borrow.Author.Needs.{needs}
+use borrow.Author.Tests.{not-true, not-false}
 use Rattle.reader.proofs.read_by.Statement.{statement}
 use Rattle.reader.proofs.read_by.Tie as tie
 use Rattle.reader.proofs.read_by.Reads as reads
@@ -106,7 +107,7 @@ same-length-2 c = search needs
 returns-2 : tie.Need-returns-2
 returns-2 c =
     let k = c .before .before in
-    no-text (start k) (not-to-end (gone k) (sym (c .before .ends .ensures) ∙ not-so (c .before .ends .result) (c .if1 .taken)))
+    no-text (start k) (not-to-end (gone k) (sym (c .before .ends .ensures) ∙ not-true (c .before .ends .result) (c .if1 .taken)))
 
 -- the row has a text
 abbrev E : Type 0
@@ -116,7 +117,7 @@ abbrev k-of : E → K
 k-of e = e .before .before
 
 abbrev told : (e : E) → Told (left 0 0 (row (start (k-of e)))) (count (k-of e))
-told e = told-whole (gone (k-of e)) (sym (e .before .ends .ensures) ∙ so (e .before .ends .result) (e .if1 .left))
+told e = told-whole (gone (k-of e)) (sym (e .before .ends .ensures) ∙ not-false (e .before .ends .result) (e .if1 .left))
 
 same-length-3 : tie.Need-same-length-3
 same-length-3 c = search needs
