@@ -25,12 +25,14 @@ use Rattle.transcriber.specs.Promise.{Transcribed}
 use Rattle.transcriber.proofs.Claims as transcriber
 use Rattle.reader.specs.declared.Answer as row
 use Rattle.reader.specs.declared.Answer.the-variants as rows
-use Rattle.reader.specs.declared.Shown as step
-use Rattle.reader.specs.declared.Shown.the-variants as steps
 use Rattle.reader.specs.Promise as reading
-use Rattle.reader.specs.Promise.{Read, Shows}
+use Rattle.reader.specs.Promise.{Read}
 use Rattle.reader.proofs.Claims as reader
-use Rattle.reader.proofs.Visiting.{coded-at, coded-text}
+use Rattle.stepper.specs.declared.Shown as step
+use Rattle.stepper.specs.declared.Shown.the-variants as steps
+use Rattle.stepper.specs.Promise.{Shows, sign-there, no-sign-there, row-refused}
+use Rattle.stepper.proofs.Claims as stepper
+use Rattle.stepper.proofs.Visiting.{coded-at, coded-text}
 use Rattle.desk.specs.Demands.{EveryPrintAnswered, EveryRowAnswered, EveryStepAnswered, PrintRefusalWritesNothing, RowRefusalWritesNothing, OneShown, OneRead, OneSign, RoundTrip, RefusedExactly, OneText, ReturnsTheText, NoTextExactly, WalkShowsText}
 use Rattle.desk.proofs.Unique as unique
 
@@ -73,18 +75,18 @@ step-outcome r place a (stepped t h) = go (signAt (signsOf castilian t) place) r
   where
     go : (x : Option signs.Sign) → signAt (signsOf castilian t) place ≡ x → Stepped castilian r place (shows (shownBy (signAt (signsOf castilian t) place) place))
         → (s : step.Shown) × Shows castilian r place s
-    go none e d = (steps.Still, reading.no-sign-there (subst (λ (x : Option signs.Sign). Stepped castilian r place (shows (shownBy x place))) e d))
+    go none e d = (steps.Still, no-sign-there (subst (λ (x : Option signs.Sign). Stepped castilian r place (shows (shownBy x place))) e d))
     go (some s) e d =
         let c = coded-at (signsOf castilian t) (coded-text castilian sane t r (h .reads)) place s e in
         let n : ℕ = place + length (s .taken) in (
           steps.Sign (c .0) (c .1) n,
-          reading.sign-there (c .0) (c .1) n
+          sign-there (c .0) (c .1) n
               (subst (λ (u : Text). Stepped castilian r place (shows (record { points = u; next = n }))) (c .2)
               (subst (λ (x : Option signs.Sign). Stepped castilian r place (shows (shownBy x place))) e d)),
         )
 step-outcome r place a (stayed x h) =
     let q = row-answer castilian r x h in
-    (steps.Refused (q .0), reading.row-refused (q .0) x (q .1) (stayed x h))
+    (steps.Refused (q .0), row-refused (q .0) x (q .1) (stayed x h))
 
 pub every-print-answered : EveryPrintAnswered castilian
 every-print-answered p lent = let a = demands.every-print-answered p (length lent) in print-outcome castilian p lent (a .0) (a .1)
@@ -133,4 +135,4 @@ no-text-exactly = reader.no-text-exactly
 
 -- THE SCREEN
 pub walk-shows-text : WalkShowsText castilian
-walk-shows-text = reader.walk-shows-text
+walk-shows-text = stepper.walk-shows-text

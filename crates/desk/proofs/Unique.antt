@@ -3,6 +3,7 @@ use mathlib.Core.Path.{sym, ap, _∙_}
 use Rattle.rules.specs.Castilian.{castilian}
 use Rattle.transcriber.proofs.Claims.{one-outcome}
 use Rattle.reader.proofs.Claims as reader
+use Rattle.stepper.proofs.Claims as stepper
 use Rattle.desk.specs.Shows.{shownOf, OneShown, readOf, OneRead, signOf, OneSign}
 
 pub one-shown : OneShown castilian
@@ -17,4 +18,4 @@ one-read r lent s t new old a b =
 
 pub one-sign : OneSign castilian
 one-sign r place s t a b =
-    a .shows ∙ ap (signOf place) (reader.one-shown r place (a .shown) (b .shown) (a .promise) (b .promise)) ∙ sym (b .shows)
+    a .shows ∙ ap (signOf place) (stepper.one-shown r place (a .shown) (b .shown) (a .promise) (b .promise)) ∙ sym (b .shows)

@@ -16,9 +16,11 @@ use Rattle.transcriber.specs.Promise.{Transcribed}
 use Rattle.transcriber.specs.Claims as transcriber
 use Rattle.reader.specs.declared.Answer as row
 use Rattle.reader.specs.declared.Answer.the-variants as rows
-use Rattle.reader.specs.declared.Shown as step
-use Rattle.reader.specs.Promise.{Read, Shows}
+use Rattle.reader.specs.Promise.{Read}
 use Rattle.reader.specs.Claims as reader
+use Rattle.stepper.specs.declared.Shown as step
+use Rattle.stepper.specs.Promise.{Shows}
+use Rattle.stepper.specs.Claims as stepper
 use Rattle.desk.specs.Shows as shown
 
 -- DEMAND 1. "Every sequence of numbers offered as print and every sequence of bytes offered as cells gets an answer, with no condition on the caller."
@@ -73,4 +75,4 @@ NoTextExactly = reader.NoTextExactly
 
 -- THE SCREEN. Walking an accepted row by public steps from 0 visits each sign once and joins to its text.
 abbrev pub WalkShowsText : Table → Type 0
-WalkShowsText = reader.WalkShowsText
+WalkShowsText = stepper.WalkShowsText

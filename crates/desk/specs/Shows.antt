@@ -10,9 +10,10 @@ use Rattle.rules.specs.Sorts.{Table}
 use Rattle.passes.specs.declared.Answer.{Answer}
 use Rattle.transcriber.specs.Promise.{numbersOf, Transcribed}
 use Rattle.reader.specs.declared.Answer as reading
-use Rattle.reader.specs.declared.Shown as stepping
-use Rattle.reader.specs.declared.Shown.the-variants as steps
 use Rattle.reader.specs.Promise as read
+use Rattle.stepper.specs.declared.Shown as stepping
+use Rattle.stepper.specs.declared.Shown.the-variants as steps
+use Rattle.stepper.specs.Promise as step
 use Rattle.desk.specs.declared.Shown.{Shown}
 use Rattle.desk.specs.declared.Sign.{Sign}
 
@@ -51,7 +52,7 @@ signOf place (steps.Refused a) = stillOf (readOf a) place
 
 pub record ShowsSign (tb : Table) (r : Row) (place : ℕ) (s : Sign) : Type 0 where
   pub shown : stepping.Shown
-  pub promise : read.Shows tb r place shown
+  pub promise : step.Shows tb r place shown
   pub shows : s ≡ signOf place shown
 
 -- "any two results allowed by one statement are proved equal"

@@ -161,27 +161,27 @@ fn no_sign(shown: Shown, place: usize) -> Sign
 }
 
 // What a step shows, as numbers.
-fn sign_numbers(shown: reader::Shown, place: usize) -> Sign
+fn sign_numbers(shown: stepper::Shown, place: usize) -> Sign
     ensures { λ r. ⌜ r ≡ signOf place shown ⌝ }
 {
     match shown {
-        reader::Shown::Sign { lead, point, next } => shown_sign(lead, point, next),
-        reader::Shown::Still => no_sign(
+        stepper::Shown::Sign { lead, point, next } => shown_sign(lead, point, next),
+        stepper::Shown::Still => no_sign(
             Shown {
                 number: DONE,
                 second: 0,
             },
             place,
         ),
-        reader::Shown::Refused(answer) => no_sign(read_numbers(answer), place),
+        stepper::Shown::Refused(answer) => no_sign(read_numbers(answer), place),
     }
 }
 
-// The proofing screen's step, as `reader::step`: any row, any place. Two wrong programs that the promise shuts out: one that moves on although the row is refused,
+// The proofing screen's step, as `stepper::step`: any row, any place. Two wrong programs that the promise shuts out: one that moves on although the row is refused,
 // and one that shows one code point of two.
 #[no_mangle]
 pub extern "C" fn desk_step(row: &[u8], place: usize) -> Sign
     ensures { λ r. ⌜ ShowsSign castilian (now (row .entry)) place r ⌝ }
 {
-    sign_numbers(reader::step(row, place), place)
+    sign_numbers(stepper::step(row, place), place)
 }

@@ -12,7 +12,7 @@ use Rattle.rules.specs.Answers.{ReadsAs}
 use Rattle.rules.proofs.Castilian.{sane}
 use Rattle.rules.proofs.Demands.{signs-join, cell-for-each-sign}
 use Rattle.readings.proofs.Print.{points-width}
-use Rattle.reader.proofs.Visiting.{Coded, coded-text}
+use Rattle.stepper.proofs.Visiting.{Coded, coded-text}
 use Rattle.printing.specs.Printed.{decimalOf, bytesOfText, lineEnd, blank}
 use Rattle.printing.proofs.Lengths.{decimal-few, text-few}
 use Rattle.proofing.specs.Steps.{colon, signLine, signLines}

@@ -17,8 +17,9 @@ use Rattle.rules.specs.Answers.{ReadsAs, RowRefused}
 use Rattle.rules.specs.Screen as screen
 use Rattle.rules.specs.Screen.{shows, stays, Stepped, stepped, stayed}
 use Rattle.reader.specs.declared.Answer.{Answer}
-use Rattle.reader.specs.declared.Shown as step
-use Rattle.reader.specs.Promise.{refusalOf, numbersOf, Shows, sign-there, no-sign-there, row-refused}
+use Rattle.reader.specs.Promise.{refusalOf, numbersOf}
+use Rattle.stepper.specs.declared.Shown as step
+use Rattle.stepper.specs.Promise.{Shows, sign-there, no-sign-there, row-refused}
 use Rattle.readings.proofs.Print.{known}
 use Rattle.desk.specs.declared.Sign as desk
 use Rattle.desk.specs.Shows.{readOf, pointsOf, signOf, ShowsSign}

@@ -19,10 +19,10 @@ use Rattle.rules.proofs.Castilian.{sane}
 use Rattle.rules.proofs.Signs.{signs-join, Filled, filled-signs}
 use Rattle.rules.proofs.Steps.{Left, left-on, step-here}
 use Rattle.readings.specs.Print.{points}
-use Rattle.reader.specs.Promise.{sign-there}
-use Rattle.reader.specs.declared.Shown.the-variants as steps
+use Rattle.stepper.specs.Promise.{sign-there}
+use Rattle.stepper.specs.declared.Shown.the-variants as steps
 use Rattle.readings.proofs.Print.{known}
-use Rattle.reader.proofs.Visiting.{Coded, coded-text}
+use Rattle.stepper.proofs.Visiting.{Coded, coded-text}
 use Rattle.desk.specs.declared.Sign as desk
 use Rattle.desk.specs.Shows.{pointsOf, signOf, ShowsSign}
 use Rattle.desk.proofs.Demands.{one-sign}

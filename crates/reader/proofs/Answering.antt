@@ -1,29 +1,25 @@
--- From what a walk finds to the promises. In order: the row's refusals; the ends of `read`; the ends of `step`. All over plain values. Assumes nothing.
+-- From what a walk finds to the promise. In order: the row's refusals; a row that is read, and the ends of `read`. All over plain values. Assumes nothing.
 use mathlib.Core.Path.{_≡_, refl, sym, ap, _∙_, subst}
 use mathlib.Core.List.{List}
-use mathlib.Core.Option.{Option, none, some}
-use Prim.Native.Nat.{ℕ, _+_, _≤_, _<_}
+use Prim.Native.Nat.{ℕ, _≤_, _<_}
 use native.Mathlib.Omega.{arith}
 use native.Mathlib.Nat.{min-eq-left}
-use lib.ListN.{length, getD}
-use Rattle.rules.specs.Cells.{Text, Row, lastCell}
-use Rattle.rules.specs.Signs.{Sign, printOf}
+use lib.ListN.{length}
+use Rattle.rules.specs.Cells.{Text, Row}
+use Rattle.rules.specs.Signs.{printOf}
 use Rattle.rules.specs.Rows.{Reads}
 use Rattle.rules.specs.Refusals.{tooLong, needsRoom, notACell, noText, longestText, longestRow, reported}
 use Rattle.rules.specs.Answers as rules
 use Rattle.rules.specs.Answers.{refuses, ProperRow, ReadsAs, RowRefused, long-row, not-a-cell, no-text, long-text, RowAnswer, text-needs-room}
-use Rattle.rules.specs.Screen.{signAt, shownBy, shows, Stepped, stepped, stayed}
 use Rattle.rules.specs.Castilian.{castilian}
 use Rattle.rules.proofs.Signs.{cells-of-text}
 use Rattle.rules.proofs.Castilian.{sane}
 use Rattle.rows.specs.Laid.{laid}
 use Rattle.readings.specs.Left.{left}
-use Rattle.readings.specs.Print.{points}
-use Rattle.reader.specs.Promise.{Read, done, refused, Shows, sign-there, no-sign-there, row-refused}
+use Rattle.reader.specs.Promise.{Read, done, refused}
 use Rattle.reader.specs.Passes.{FirstHigh, RefusesRow}
 use Rattle.reader.specs.declared.Answer.{Answer}
 use Rattle.reader.specs.declared.Answer.the-variants.{Done, TooLong, NotACell, NoText, NeedsRoom}
-use Rattle.reader.specs.declared.Shown.the-variants as shown
 use Rattle.reader.proofs.Whole.{two-points-each, left-text, Told}
 
 -- THE ROW'S REFUSALS
@@ -31,12 +27,15 @@ module _ (r : Row) where
   pub row-long : (n : ℕ) → longestRow < length r → n ≡ reported (length r) → RefusesRow castilian r (TooLong n)
   row-long n l e = (tooLong n, refl, subst (λ (k : ℕ). RowRefused castilian r (tooLong k)) (sym e) (long-row l))
 
+  pub row-no-text : ProperRow r → ((t : Text) → Reads castilian r t → ⊥) → RefusesRow castilian r NoText
+  row-no-text proper none-reads = (noText, refl, no-text proper none-reads)
+
   module _ (short : length r ≤ longestRow) where
     pub row-not-cells : (n : ℕ) → FirstHigh r n → n < length r → RefusesRow castilian r (NotACell n)
     row-not-cells n f l = (notACell n, refl, not-a-cell n short l (f .there l) (f .below))
 
-    pub row-no-text : ((m : ℕ) → m < length r → getD r m 0 ≤ lastCell) → ((t : Text) → Reads castilian r t → ⊥) → RefusesRow castilian r NoText
-    row-no-text cells none-reads = (noText, refl, no-text (record { short = short; cells = cells }) none-reads)
+    pub row-proper : (n : ℕ) → FirstHigh r n → length r ≤ n → ProperRow r
+    row-proper n f all = record { short = short; cells = λ m h. f .below m (omega (arith, h, all)) }
 
     -- a row that has a text is of cells
     proper : (t : Text) → Reads castilian r t → ProperRow r
@@ -59,7 +58,7 @@ module _ (r : Row) where
                 (long-text text (proper text has) has (omega (arith, told .count))),
           )
 
-      accepted : c ≤ longestText → ReadsAs castilian r text
+      pub accepted : c ≤ longestText → ReadsAs castilian r text
       accepted h = record { proper = proper text has; reads = has; short = omega (arith, told .count) }
 
       -- THE ENDS OF `read` that are no refusal of the row
@@ -76,26 +75,7 @@ module _ (r : Row) where
           (subst (λ (n : ℕ). Read castilian r lent (Done n) (laid text lent)) (sym (told .count))
           (done text (rules.read text (accepted h) (omega (arith, told .count)))))
 
-      -- THE ENDS OF `step` that are no refusal
-      at-place : (place : ℕ) → c ≤ longestText → (x : Option Sign) → signAt (told .signs) place ≡ x → Stepped castilian r place (shows (shownBy x place))
-      at-place place h x e =
-          subst (λ (y : Option Sign). Stepped castilian r place (shows (shownBy y place)))
-          (ap (λ (ss : List Sign). signAt ss place) (left-text r (told .signs) (told .are) .1) ∙ e) (stepped text (accepted h))
-
-      pub step-still : (place : ℕ) → c ≤ longestText → signAt (told .signs) place ≡ none → Shows castilian r place shown.Still
-      step-still place h e = no-sign-there (at-place place h none e)
-
-      pub step-sign : (place : ℕ) → c ≤ longestText → (g : Sign) → signAt (told .signs) place ≡ some g → (l p k : ℕ) → g .shown ≡ points l p
-          → k ≡ place + length (g .taken) → Shows castilian r place (shown.Sign l p k)
-      step-sign place h g e l p k print next =
-          sign-there l p k
-          (subst (λ (n : ℕ). Stepped castilian r place (shows (record { points = points l p; next = n }))) (sym next)
-          (subst (λ (u : Text). Stepped castilian r place (shows (record { points = u; next = place + length (g .taken) }))) print (at-place place h (some g) e)))
-
-  -- a refusal of the row is what `read` and `step` answer
+  -- a refusal of the row is what `read` answers
   pub read-refused : (a : Answer) → RefusesRow castilian r a → (lent new : List ℕ) → new ≡ lent → Read castilian r lent a new
   read-refused a h lent new same =
       subst (Read castilian r lent a) (sym same) (refused a (h .0) (h .1) (rules.row-refused (h .0) (h .2)))
-
-  pub step-refused : (a : Answer) → RefusesRow castilian r a → (place : ℕ) → Shows castilian r place (shown.Refused a)
-  step-refused a h place = row-refused a (h .0) (h .1) (stayed (h .0) (h .2))

@@ -1,9 +1,8 @@
--- The claims of specs/Claims.antt. Each goes by cases on the promise; the rules' own demands (crates/rules/proofs/Answers.antt) do the rest, and for the
--- screen's walk proofs/Visiting.antt. Assumes nothing.
+-- The claims of specs/Claims.antt. Each goes by cases on the promise; the rules' own demands (crates/rules/proofs/Answers.antt) do the rest. Assumes nothing.
 use mathlib.Core.Path.{_≡_, refl, sym, ap, _∙_, subst}
-use mathlib.Core.List.{List, []}
+use mathlib.Core.List.{List}
 use mathlib.Core.Option.{some}
-use Prim.Native.Nat.{ℕ, _+_, _≤_}
+use Prim.Native.Nat.{ℕ, _+_, _≤_, _<_}
 use native.Mathlib.Omega.{arith}
 use lib.ListN.{length, drop, getD}
 use lib.Seq.{getD-append-add, getD-drop}
@@ -12,9 +11,7 @@ use Rattle.rules.specs.Sorts.{Table}
 use Rattle.rules.specs.Rows.{Reads}
 use Rattle.rules.specs.Refusals.{Refusal, tooLong, atFault, needsRoom, notACell, noText}
 use Rattle.rules.specs.Answers as rules
-use Rattle.rules.specs.Answers.{gives, refuses, ProperRow, ReadsAs, RowRefused, long-row, not-a-cell, no-text, long-text, RowAnswer}
-use Rattle.rules.specs.Screen as screen
-use Rattle.rules.specs.Screen.{StepAnswer, shows, stays, Stepped, stayed}
+use Rattle.rules.specs.Answers.{gives, refuses, ProperRow, ReadsAs, RowAnswer}
 use Rattle.rules.specs.Castilian.{castilian}
 use Rattle.rules.proofs.Finite.{nothing}
 use Rattle.rules.proofs.Profile.{Sane}
@@ -22,15 +19,11 @@ use Rattle.rules.proofs.Castilian.{sane}
 use Rattle.rules.proofs.Answers as answers
 use Rattle.rows.specs.Laid.{laid}
 use Rattle.rows.proofs.Laid.{length-laid, front}
-use Rattle.readings.specs.Print.{points}
 use Rattle.reader.specs.declared.Answer.{Answer}
 use Rattle.reader.specs.declared.Answer.the-variants.{Done, TooLong, NotACell, NoText, NeedsRoom}
-use Rattle.reader.specs.declared.Shown.{Shown}
-use Rattle.reader.specs.declared.Shown.the-variants.{Refused}
-use Rattle.reader.specs.Promise.{refusalOf, Read, done, refused, sign-there, no-sign-there, row-refused}
-use Rattle.reader.specs.Claims.{OneOutcome, OneShown, CountIsLength, RestAsItWas, RefusalWritesNothing, ReturnsTheText, NoTextExactly, RefusedAsRead, NeverSix, StillExactly, WalkShowsText}
-use Rattle.readings.proofs.Print.{points-width, points-inj}
-use Rattle.reader.proofs.Visiting.{shows-same, still-exactly-in, walk-shows-text-in}
+use Rattle.reader.specs.Promise.{refusalOf, Read, done, refused}
+use Rattle.reader.specs.Passes.{FirstHigh}
+use Rattle.reader.specs.Claims.{OneOutcome, CountIsLength, RestAsItWas, RefusalWritesNothing, ReturnsTheText, NoTextExactly, OneFirstHigh}
 
 -- an answer is known by its refusal
 back : Refusal → Answer
@@ -40,7 +33,7 @@ back (needsRoom n) = NeedsRoom n
 back (notACell n) = NotACell n
 back noText = NoText
 
-some-same : {A : Type 0} {x y : A} → some x ≡ some y → x ≡ y
+pub some-same : {A : Type 0} {x y : A} → some x ≡ some y → x ≡ y
 some-same e = cc
 
 known : (a : Answer) (x : Refusal) → refusalOf a ≡ some x → a ≡ back x
@@ -51,29 +44,20 @@ known (NotACell n) x e = ap back (some-same e)
 known NoText x e = ap back (some-same e)
 known (NeedsRoom n) x e = ap back (some-same e)
 
-known-two : (a b : Answer) (x y : Refusal) → refusalOf a ≡ some x → refusalOf b ≡ some y → x ≡ y → a ≡ b
+pub known-two : (a b : Answer) (x y : Refusal) → refusalOf a ≡ some x → refusalOf b ≡ some y → x ≡ y → a ≡ b
 known-two a b x y p q e = known a x p ∙ ap back e ∙ sym (known b y q)
 
 gives-same : (t u : Text) → gives t ≡ gives u → t ≡ u
 gives-same t u e = cc
 
-refuses-same : (x y : Refusal) → refuses x ≡ refuses y → x ≡ y
+pub refuses-same : (x y : Refusal) → refuses x ≡ refuses y → x ≡ y
 refuses-same x y e = cc
 
-gives-not-refuses : {B : Type 0} {t : Text} {x : Refusal} → gives t ≡ refuses x → B
+pub gives-not-refuses : {B : Type 0} {t : Text} {x : Refusal} → gives t ≡ refuses x → B
 gives-not-refuses e = let z : _≡_ {A = ℕ} 0 1 = cc in absurd (omega arith)
 
 done-same : (m n : ℕ) → Done m ≡ Done n → m ≡ n
 done-same m n e = cc
-
-stays-same : (x y : Refusal) → stays x ≡ stays y → x ≡ y
-stays-same x y e = cc
-
-shows-not-stays : {B : Type 0} {x : screen.Shown} {y : Refusal} → shows x ≡ stays y → B
-shows-not-stays e = let z : _≡_ {A = ℕ} 0 1 = cc in absurd (omega arith)
-
-no-points : {B : Type 0} (l p : ℕ) → points l p ≡ [] → B
-no-points l p e = absurd (omega (arith, ap length e, points-width l p .0))
 
 -- behind what was laid all is as it was
 behind : (t lent : List ℕ) (n : ℕ) (new : List ℕ) → n ≡ length t → new ≡ laid t lent → (k : ℕ) → getD new (n + k) 0 ≡ getD lent (n + k) 0
@@ -111,29 +95,6 @@ module _ (tb : Table) where
         behind t lent n new (g .2) (g .3),
       )
 
-  -- a row's refusals are never for want of room
-  not-six : (r : Row) (x : Refusal) (n : ℕ) → RowRefused tb r x → x ≡ needsRoom n → ⊥
-  not-six r x n (long-row l) e = let z : _≡_ {A = ℕ} 0 1 = cc in omega arith
-  not-six r x n (not-a-cell m l k u f) e = let z : _≡_ {A = ℕ} 0 1 = cc in omega arith
-  not-six r x n (no-text p h) e = let z : _≡_ {A = ℕ} 0 1 = cc in omega arith
-  not-six r x n (long-text t p h l) e = let z : _≡_ {A = ℕ} 0 1 = cc in omega arith
-
-  refused-of : (r : Row) (place : ℕ) (x : Refusal) → Stepped tb r place (stays x) → RowRefused tb r x
-  refused-of r place x (stayed y h) = h
-
-  pub never-six-in : NeverSix tb
-  never-six-in r place n (row-refused a x q h) = not-six r x n (refused-of r place x h) (sym (some-same q))
-
-  pub refused-as-read-in : RefusedAsRead tb
-  refused-as-read-in r lent a new (done t g) f other place = nothing (f .1)
-  refused-as-read-in r lent a new (refused c x q h) f other place = row-refused c x q (stayed x (go (refuses x) h refl))
-    where
-      go : (y : rules.Answer) → RowAnswer tb r (length lent) y → y ≡ refuses x → RowRefused tb r x
-      go y (rules.row-refused z k) e = subst (RowRefused tb r) (refuses-same z x e) k
-      go y (rules.text-needs-room t k l) e =
-          absurd (other (length t) (known-two c (NeedsRoom (length t)) x (needsRoom (length t)) q refl (sym (refuses-same (needsRoom (length t)) x e))))
-      go y (rules.read t k l) e = gives-not-refuses e
-
   module _ (held : Sane tb) where
     one : (r : Row) (lent : List ℕ) (x y : rules.Answer) → RowAnswer tb r (length lent) x → RowAnswer tb r (length lent) y → x ≡ y
     one r lent x y = answers.one-row-answer tb held r (length lent) x y
@@ -168,36 +129,9 @@ module _ (tb : Table) where
             known-two c NoText x noText q refl
             (refuses-same x noText (one r lent (refuses x) (refuses noText) h (answers.no-text-exactly tb held r (length lent) .1 f)))
 
-    only : (r : Row) (place : ℕ) (a b : StepAnswer) → Stepped tb r place a → Stepped tb r place b → a ≡ b
-    only r place a b = answers.one-step-answer tb held r place a b
-
-    pub one-shown-in : OneShown tb
-    one-shown-in r place s u (sign-there l p k g) (sign-there m q n h) =
-        let e : _≡_ {A = screen.Shown} (record { points = points l p; next = k }) (record { points = points m q; next = n }) =
-        shows-same _ _ (only r place _ _ g h) in
-        let i = points-inj l p m q (ap (λ (x : screen.Shown). x .points) e) in
-        let j : k ≡ n = ap (λ (x : screen.Shown). x .next) e in
-        let a : l ≡ m = i .0 in
-        let b : p ≡ q = i .1 in
-        cc
-    one-shown-in r place s u (sign-there l p k g) (no-sign-there h) =
-        no-points l p (ap (λ (x : screen.Shown). x .points) (shows-same _ _ (only r place _ _ g h)))
-    one-shown-in r place s u (no-sign-there g) (sign-there l p k h) =
-        no-points l p (ap (λ (x : screen.Shown). x .points) (shows-same _ _ (only r place _ _ h g)))
-    one-shown-in r place s u (no-sign-there g) (no-sign-there h) = refl
-    one-shown-in r place s u (sign-there l p k g) (row-refused a x q h) = shows-not-stays (only r place _ _ g h)
-    one-shown-in r place s u (no-sign-there g) (row-refused a x q h) = shows-not-stays (only r place _ _ g h)
-    one-shown-in r place s u (row-refused a x q h) (sign-there l p k g) = shows-not-stays (only r place _ _ g h)
-    one-shown-in r place s u (row-refused a x q h) (no-sign-there g) = shows-not-stays (only r place _ _ g h)
-    one-shown-in r place s u (row-refused a x q g) (row-refused b y w h) =
-        ap Refused (known-two a b x y q w (stays-same x y (only r place (stays x) (stays y) g h)))
-
 -- of the Castilian table
 pub one-outcome : OneOutcome castilian
 one-outcome = one-outcome-in castilian sane
-
-pub one-shown : OneShown castilian
-one-shown = one-shown-in castilian sane
 
 pub count-is-length : CountIsLength castilian
 count-is-length = count-is-length-in castilian
@@ -214,14 +148,12 @@ returns-the-text = returns-the-text-in castilian sane
 pub no-text-exactly : NoTextExactly castilian
 no-text-exactly = no-text-exactly-in castilian sane
 
-pub refused-as-read : RefusedAsRead castilian
-refused-as-read = refused-as-read-in castilian
+-- of two such places neither comes before the other
+not-before : (r : Row) (m n : ℕ) → FirstHigh r m → FirstHigh r n → m < n → ⊥
+not-before r m n f g l = omega (arith, f .there (omega (arith, l, g .within)), g .below m l)
 
-pub never-six : NeverSix castilian
-never-six = never-six-in castilian
-
-pub still-exactly : StillExactly castilian
-still-exactly = still-exactly-in castilian sane
-
-pub walk-shows-text : WalkShowsText castilian
-walk-shows-text = walk-shows-text-in castilian sane
+pub one-first-high : OneFirstHigh
+one-first-high r m n f g =
+    let a : m < n → ⊥ = not-before r m n f g in
+    let b : n < m → ⊥ = not-before r n m g f in
+    omega (arith, a, b)

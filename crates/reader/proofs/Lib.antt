@@ -2,5 +2,4 @@ pub mod Whole
 pub mod Parts
 pub mod Copying
 pub mod Answering
-pub mod Visiting
 pub mod Claims

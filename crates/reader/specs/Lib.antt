@@ -1,3 +1,3 @@
 pub mod Promise
-pub mod Claims
 pub mod Passes
+pub mod Claims

@@ -1,5 +1,5 @@
--- What the inner functions promise. In order: the first byte that is no cell; why a row is refused. What a walk over a part of the row finds is said in the
--- crate `walks`. Assumes nothing.
+-- What the inner functions promise, here and in the crate `stepper`. In order: the first byte that is no cell; why a row is refused. What a walk over a part of
+-- the row finds is said in the crate `walks`. Assumes nothing.
 use mathlib.Core.Option.{some}
 use mathlib.Core.Path.{_≡_}
 use Prim.Native.Nat.{ℕ, _≤_, _<_}

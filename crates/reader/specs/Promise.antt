@@ -1,7 +1,6 @@
--- What `read` and `step` promise (paper 01, "Numbers the desk shows" and "The proofing screen steps sign by sign .."; demands 1 and 3). In order: the
--- refusal that each answer is, in the paper's words; its number and second number; the promise of `read`; that of `step`. Not here: which answer the
--- rules allow (`Answers.RowAnswer` and `Screen.Stepped` of the crate `rules`). Assumes nothing.
-use mathlib.Core.List.{List, []}
+-- What `read` promises (paper 01, "Numbers the desk shows"; demands 1 and 3). In order: the refusal that each answer is, in the paper's words; its number and
+-- second number; the promise. Not here: which answer the rules allow (`Answers.RowAnswer` of the crate `rules`). Assumes nothing.
+use mathlib.Core.List.{List}
 use mathlib.Core.Option.{Option, none, some}
 use mathlib.Core.Path.{_≡_}
 use Prim.Native.Nat.{ℕ}
@@ -10,13 +9,9 @@ use Rattle.rules.specs.Cells.{Text, Row}
 use Rattle.rules.specs.Sorts.{Table}
 use Rattle.rules.specs.Refusals.{Refusal, tooLong, needsRoom, notACell, noText, numberOf, secondOf}
 use Rattle.rules.specs.Answers.{gives, refuses, RowAnswer}
-use Rattle.rules.specs.Screen.{shows, stays, Stepped}
 use Rattle.rows.specs.Laid.{laid}
-use Rattle.readings.specs.Print.{points}
 use Rattle.reader.specs.declared.Answer.{Answer}
 use Rattle.reader.specs.declared.Answer.the-variants.{Done, TooLong, NotACell, NoText, NeedsRoom}
-use Rattle.reader.specs.declared.Shown.{Shown}
-use Rattle.reader.specs.declared.Shown.the-variants.{Sign, Still, Refused}
 
 -- the refusal that an answer is, by the paper's table; `Done` is none
 abbrev pub refusalOf : Answer → Option Refusal
@@ -47,13 +42,3 @@ pub data Read (tb : Table) (r : Row) (lent : List ℕ) : Answer → List ℕ →
   done : (t : Text) → RowAnswer tb r (length lent) (gives t) → Read tb r lent (Done (length t)) (laid t lent)
   -- "A refusal writes nothing."
   refused : (a : Answer) (x : Refusal) → refusalOf a ≡ some x → RowAnswer tb r (length lent) (refuses x) → Read tb r lent a lent
-
--- THE PROMISE of `step`, of a row and a place: what it shows. (A lead of 0 is none: then the sign has one code point, `point`.)
-pub data Shows (tb : Table) (r : Row) (place : ℕ) : Shown → Type 0 where
-  -- "each step gives the print of the next sign and the place after it"
-  sign-there : (lead point next : ℕ) → Stepped tb r place (shows (record { points = points lead point; next = next }))
-      → Shows tb r place (Sign lead point next)
-  -- "A place at or past the row's end, or one that starts no sign, gives no code point and the same place back."
-  no-sign-there : Stepped tb r place (shows (record { points = []; next = place })) → Shows tb r place Still
-  -- "A row that isn't accepted is refused as reading refuses it, but never with 6, and the place stays."
-  row-refused : (a : Answer) (x : Refusal) → refusalOf a ≡ some x → Stepped tb r place (stays x) → Shows tb r place (Refused a)

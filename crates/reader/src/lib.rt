@@ -1,7 +1,7 @@
-// Cells to print. `read` reads a whole row, `step` gives the sign at a place of one; what they promise is specs/Promise.antt.
+// Cells to print: `read` reads a whole row; what it promises is specs/Promise.antt. (The sign at one place of a row: crates/stepper.)
 // One loop walks the row sign by sign (crates/walks). Between two signs it knows a mode and which pairs are open; both follow from the cells before, and neither is kept
-// from one call to the next. The row is walked once. `read` has a draft written, a text of its own, and copies it to the lent text when all is known to fit: so
-// nothing is written before. `step` walks in three parts: up to its place, over the sign there, and to the end.
+// from one call to the next. The row is walked once. `read` asks first for a byte that is no cell, has a draft written, a text of its own, and copies it to the
+// lent text when all is known to fit: so nothing is written before.
 use readings::FREE;
 use readings::NO_POINT;
 use signs::LAST_CELL;
@@ -10,18 +10,17 @@ use walks::walk;
 ghost use mathlib.Core.Bool.{_&&_};
 ghost use mathlib.Core.Logic.{_⊎_};
 ghost use mathlib.Core.Path.{_≡_};
-ghost use Prim.Native.Nat.{ℕ, _+_, _*_, _≤_, _<_};
+ghost use Prim.Native.Nat.{ℕ, _*_, _≤_, _<_};
 ghost use lib.Dec.{eqb};
 ghost use lib.ListN.{length, getD};
-ghost use Rattle.rules.specs.Cells.{Text};
 ghost use Rattle.rules.specs.Castilian.{castilian};
-ghost use Rattle.rules.specs.Rows.{Reads};
-ghost use Rattle.rules.specs.Refusals.{longestRow, longestText, reported};
+ghost use Rattle.rules.specs.Refusals.{longestText, reported};
+ghost use Rattle.rules.specs.Answers.{ProperRow};
 ghost use Rattle.rules.proofs.Machine.{at-rest};
 ghost use Rattle.rows.specs.Laid.{laid};
 ghost use Rattle.readings.specs.Modes.{modeOf, modeCount};
-ghost use Rattle.reader.specs.Promise.{Read, Shows};
-ghost use Rattle.reader.specs.Passes.{FirstHigh, RefusesRow};
+ghost use Rattle.reader.specs.Promise.{Read};
+ghost use Rattle.reader.specs.Passes.{FirstHigh};
 
 // The answer to a row. `Done` has the count of code points written; any other is a refusal, and the lent text is then as it was. Paper 01's number and
 // second number for each are given by `Promise.refusalOf`.
@@ -37,18 +36,10 @@ pub enum Answer {
     NeedsRoom(usize),
 }
 
-// What a step shows: the print of the sign that starts at the place, and the place after it (`lead` is NO_POINT where the sign has one code point); no code
-// point, and the place stays; or a refusal, and the place stays.
-pub enum Shown {
-    Sign { lead: u32, point: u32, next: usize },
-    Still,
-    Refused(Answer),
-}
-
 // "a row above 12,288 cells", "a text above 4,096"
-const LONGEST_ROW: usize = 12288;
+pub const LONGEST_ROW: usize = 12288;
 
-const LONGEST_TEXT: usize = 4096;
+pub const LONGEST_TEXT: usize = 4096;
 
 // Rows that are read by way of a shorter draft: a row has at most two code points for each cell.
 const SHORT_ROW: usize = 64;
@@ -62,14 +53,14 @@ const MIDDLE_DRAFT: usize = 1024;
 // "A length above 4,294,967,295 is reported as that number."
 const MOST_REPORTED: usize = 4294967295;
 
-fn reported_length(n: usize) -> usize
+pub fn reported_length(n: usize) -> usize
     ensures { λ r. ⌜ r ≡ reported n ⌝ }
 {
     if n <= MOST_REPORTED { n } else { MOST_REPORTED }
 }
 
 // May a text end here: is what was begun whole, and no pair open?
-fn ends(mode: usize, opened: usize) -> bool
+pub fn ends(mode: usize, opened: usize) -> bool
     requires { ⌜ mode < modeCount ⌝ }
     ensures { λ r. ⌜ r ≡ (at-rest (modeOf mode) && eqb opened 0) ⌝ }
 {
@@ -95,10 +86,13 @@ fn greatest(row: &[u8]) -> u8
     most
 }
 
-// The place of the first byte above 63, or the row's length.
-fn first_high(row: &[u8]) -> usize
+// The place of the first byte above 63, or the row's length. (Few rows have one, and the greatest byte says so fastest.)
+pub fn first_high(row: &[u8]) -> usize
     ensures { λ r. ⌜ FirstHigh (now (row .entry)) r ⌝ }
 {
+    if greatest(row) <= LAST_CELL {
+        return row.len();
+    }
     let mut place: usize = 0;
     while place < row.len() {
         if LAST_CELL < row[place] {
@@ -107,21 +101,6 @@ fn first_high(row: &[u8]) -> usize
         place += 1;
     }
     place
-}
-
-// Why a row has no text: a byte of it is no cell, or no text of any length has these cells.
-fn unread(row: &[u8]) -> Answer
-    requires { ⌜ (length (now row) ≤ longestRow) × ((t : Text) → Reads castilian (now row) t → ⊥) ⌝ }
-    ensures { λ r. ⌜ RefusesRow castilian (now (row .entry)) r ⌝ }
-{
-    if greatest(row) <= LAST_CELL {
-        return Answer::NoText;
-    }
-    let place = first_high(row);
-    if place < row.len() {
-        return Answer::NotACell(place);
-    }
-    Answer::NoText
 }
 
 // A draft, to the front of the lent text.
@@ -136,10 +115,10 @@ fn copy(draft: &[u32], text: &mut [u32])
     }
 }
 
-// Reads a row by way of a draft, which has room for any text of the row, or for the longest that is accepted. The walk is lent nothing that the caller lent, so a
-// refusal leaves that as it was. (One walk and a copy are faster than two walks, the first without room.)
+// Reads a row of cells by way of a draft, which has room for any text of the row, or for the longest that is accepted. The walk is lent nothing that the caller
+// lent, so a refusal leaves that as it was. (One walk and a copy are faster than two walks, the first without room.)
 fn read_by(row: &[u8], draft: &mut [u32], text: &mut [u32]) -> Answer
-    requires { ⌜ (length (now row) ≤ longestRow) × ((2 * length (now row) ≤ length (now draft)) ⊎ (longestText ≤ length (now draft))) ⌝ }
+    requires { ⌜ ProperRow (now row) × ((2 * length (now row) ≤ length (now draft)) ⊎ (longestText ≤ length (now draft))) ⌝ }
     ensures { λ r. ⌜ Read castilian (now (row .entry)) (now (text .entry)) r (now (text .exit)) ⌝ }
 {
     let walked = walk(row, 0, row.len(), FREE, 0, draft);
@@ -150,10 +129,10 @@ fn read_by(row: &[u8], draft: &mut [u32], text: &mut [u32]) -> Answer
         count,
     } = walked
     else {
-        return unread(row);
+        return Answer::NoText;
     };
     if !ends(mode, opened) {
-        return unread(row);
+        return Answer::NoText;
     }
     if LONGEST_TEXT < count {
         return Answer::TooLong(count);
@@ -167,12 +146,16 @@ fn read_by(row: &[u8], draft: &mut [u32], text: &mut [u32]) -> Answer
 
 // Cells to print: the answer of the rules for any row and any lent text, which then holds the text from its first element on and is otherwise as it was.
 // Two wrong programs that the promise shuts out: one that says that every row has no text, and one that writes before it knows that the row has one.
-// (A draft is cleared before it is used, so a short row has a short one.)
+// (A row with a byte that is no cell is not walked for nothing. A draft is cleared before it is used, so a short row has a short one.)
 pub fn read(row: &[u8], text: &mut [u32]) -> Answer
     ensures { λ r. ⌜ Read castilian (now (row .entry)) (now (text .entry)) r (now (text .exit)) ⌝ }
 {
     if LONGEST_ROW < row.len() {
         return Answer::TooLong(reported_length(row.len()));
+    }
+    let high = first_high(row);
+    if high < row.len() {
+        return Answer::NotACell(high);
     }
     if row.len() <= SHORT_ROW {
         let mut draft = [NO_POINT; SHORT_DRAFT];
@@ -184,105 +167,4 @@ pub fn read(row: &[u8], text: &mut [u32]) -> Answer
     }
     let mut draft = [NO_POINT; LONGEST_TEXT];
     read_by(row, &mut draft, text)
-}
-
-// Up to where a step walks before the sign at its place.
-fn stop_before(place: usize, end: usize) -> usize
-    ensures { λ r. ⌜ ((place < end) × (r ≡ place)) ⊎ ((end ≤ place) × (r ≡ end)) ⌝ }
-{
-    if place < end { place } else { end }
-}
-
-// Up to where it walks for that sign, from where it came to: one place on, if that is the place and the row goes on there.
-fn stop_behind(at: usize, place: usize, end: usize) -> usize
-    ensures { λ r. ⌜ ((at ≡ place) × (at < end) × (r ≡ at + 1)) ⊎ (((at ≡ place) → end ≤ at) × (r ≡ at)) ⌝ }
-{
-    if at == place {
-        if at < end {
-            return at + 1;
-        }
-    }
-    at
-}
-
-// The proofing screen's step: "What a step gives follows from the row and the place alone." The row is walked once.
-// Two wrong programs that the promise shuts out: one that shows a sign of a row that is not accepted, and one that shows the print of the sign before.
-pub fn step(row: &[u8], place: usize) -> Shown
-    ensures { λ r. ⌜ Shows castilian (now (row .entry)) place r ⌝ }
-{
-    if LONGEST_ROW < row.len() {
-        return Shown::Refused(Answer::TooLong(reported_length(row.len())));
-    }
-    let mut no_room = [NO_POINT; 1];
-    let Walked::On {
-        at,
-        mode,
-        opened,
-        count: count_before,
-    } = walk(
-        row,
-        0,
-        stop_before(place, row.len()),
-        FREE,
-        0,
-        &mut no_room[..0],
-    )
-    else {
-        return Shown::Refused(unread(row));
-    };
-    let mut print = [NO_POINT; 2];
-    let Walked::On {
-        at: next,
-        mode: mode_after,
-        opened: opened_after,
-        count: width,
-    } = walk(
-        row,
-        at,
-        stop_behind(at, place, row.len()),
-        mode,
-        opened,
-        &mut print,
-    )
-    else {
-        return Shown::Refused(unread(row));
-    };
-    let Walked::On {
-        at: _,
-        mode: mode_last,
-        opened: opened_last,
-        count: count_after,
-    } = walk(
-        row,
-        next,
-        row.len(),
-        mode_after,
-        opened_after,
-        &mut no_room[..0],
-    )
-    else {
-        return Shown::Refused(unread(row));
-    };
-    if !ends(mode_last, opened_last) {
-        return Shown::Refused(unread(row));
-    }
-    let count = count_before + width + count_after;
-    if LONGEST_TEXT < count {
-        return Shown::Refused(Answer::TooLong(count));
-    }
-    if next == at {
-        return Shown::Still;
-    }
-    if width == 1 {
-        return Shown::Sign {
-            lead: NO_POINT,
-            point: print[0],
-            next,
-        };
-    }
-    Shown::Sign {
-        lead: print[0],
-        point: print[1],
-        next,
-    }
 }

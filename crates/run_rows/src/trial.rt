@@ -1,6 +1,6 @@
 // One row: read, transcribed back, and stepped through.
 use crate::say;
-use reader::Shown;
+use stepper::Shown;
 ghost use Prim.Native.Nat.{_≤_};
 
 // The numbers of paper 01's table that are told apart here. An answer's numbers are those that the desk shows.

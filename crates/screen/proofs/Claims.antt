@@ -1,4 +1,4 @@
--- The claims of specs/Claims.antt: those of the crates `rules` and `reader` about a row and a place, at the row and the place of a reader. Assumes
+-- The claims of specs/Claims.antt: those of the crates `rules` and `stepper` about a row and a place, at the row and the place of a reader. Assumes
 -- nothing.
 use mathlib.Core.List.{List, [], _∷_}
 use mathlib.Core.Path.{_≡_, sym, ap, _∙_}
@@ -10,10 +10,10 @@ use Rattle.rules.specs.Castilian.{castilian}
 use Rattle.rules.specs.Screen.{StepAnswer, Stepped}
 use Rattle.rules.proofs.Castilian.{sane}
 use Rattle.rules.proofs.Answers as answers
-use Rattle.reader.specs.declared.Shown.the-variants.{Sign}
-use Rattle.reader.specs.Promise.{sign-there, no-sign-there, row-refused}
-use Rattle.reader.specs.Claims.{Visits}
-use Rattle.reader.proofs.Claims.{one-shown, walk-shows-text}
+use Rattle.stepper.specs.declared.Shown.the-variants.{Sign}
+use Rattle.stepper.specs.Promise.{sign-there, no-sign-there, row-refused}
+use Rattle.stepper.specs.Claims.{Visits}
+use Rattle.stepper.proofs.Claims.{one-shown, walk-shows-text}
 use Rattle.screen.specs.declared.Reader.{Reader}
 use Rattle.screen.specs.Claims.{Stands, OneReader, OneNext, placeIn, PlaceByTheRules, ShowsInTurn, StepsShowText}
 use Rattle.screen.proofs.Standing.{shown-also, shown-by-reader}

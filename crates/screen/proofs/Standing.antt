@@ -4,8 +4,8 @@ use mathlib.Core.Path.{_≡_, sym, ap, subst}
 use Prim.Native.Nat.{ℕ}
 use denote.Ref.{RefT, now}
 use Rattle.rules.specs.Castilian.{castilian}
-use Rattle.reader.specs.declared.Shown.{Shown}
-use Rattle.reader.specs.Promise.{Shows}
+use Rattle.stepper.specs.declared.Shown.{Shown}
+use Rattle.stepper.specs.Promise.{Shows}
 use Rattle.screen.specs.declared.Reader.{Reader}
 use Rattle.screen.specs.Claims.{Stands}
 

@@ -11,10 +11,10 @@ use Rattle.rules.specs.Castilian.{castilian}
 use Rattle.rules.specs.Rows.{signsOf}
 use Rattle.rules.specs.Answers.{ReadsAs}
 use Rattle.rules.specs.Screen.{StepAnswer, shows, stays, Stepped}
-use Rattle.reader.specs.declared.Shown.{Shown}
-use Rattle.reader.specs.declared.Shown.the-variants.{Sign}
-use Rattle.reader.specs.Promise.{Shows}
-use Rattle.reader.specs.Claims.{printBy}
+use Rattle.stepper.specs.declared.Shown.{Shown}
+use Rattle.stepper.specs.declared.Shown.the-variants.{Sign}
+use Rattle.stepper.specs.Promise.{Shows}
+use Rattle.stepper.specs.Claims.{printBy}
 use Rattle.screen.specs.declared.Reader.{Reader}
 use Rattle.screen.specs.Places.{placeAfter}
 

@@ -1,10 +1,10 @@
 // The proofing screen's reader: it holds the row that it borrows and a place, and it copies nothing. What a sign is, and which rows are
-// refused, is `reader::step`'s to say; here a place is only held, stepped from and moved.
+// refused, is `stepper::step`'s to say; here a place is only held, stepped from and moved.
 // The proofs of the functions over the struct are walks of their code by hand: whatever is to be decided goes into a function over plain parameters.
-use reader::Shown;
+use stepper::Shown;
 ghost use mathlib.Core.Path.{_≡_};
 ghost use Rattle.rules.specs.Castilian.{castilian};
-ghost use Rattle.reader.specs.Promise.{Shows};
+ghost use Rattle.stepper.specs.Promise.{Shows};
 ghost use Rattle.screen.specs.Places.{placeAfter};
 
 // A row, lent, and a place of it.
@@ -29,7 +29,7 @@ pub fn new<'a>(row: &'a [u8]) -> Reader<'a>
 pub fn next<'a>(r: Reader<'a>) -> Shown
     ensures { λ s. ⌜ Shows castilian (now (r .entry .row)) (r .entry .place) s ⌝ }
 {
-    reader::step(r.row, r.place)
+    stepper::step(r.row, r.place)
 }
 
 // The same row, at another place.

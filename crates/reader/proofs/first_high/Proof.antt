@@ -1,4 +1,5 @@
--- `first_high`: the loop's invariant is that every byte before the place is a cell. The measure is what is left of the row. Assumes nothing.
+-- `first_high`: where the greatest byte is a cell, every byte is. The loop's invariant is that every byte before the place is a cell. The measure is what is left
+-- of the row. Assumes nothing.
 use Prim.Native.Nat.{ℕ, _-_, _≤_, _<_, zero-le}
 use native.Mathlib.Omega.{arith}
 use native.Mathlib.Nat.{not-suc-le-zero}
@@ -10,6 +11,7 @@ use Rattle.reader.proofs.first_high.Statement.{statement}
 use Rattle.reader.proofs.first_high.Tie as tie
 use Rattle.reader.proofs.first_high.Reads as reads
 use Rattle.reader.proofs.first_high.Lts as lts
+use Rattle.reader.proofs.greatest.Reads as greatest-reads
 
 abbrev Inv-loop : tie.InvT-loop
 Inv-loop row place₀ place = (place ≤ length row) × ((m : ℕ) → m < place → getD row m 0 ≤ lastCell)
@@ -17,16 +19,27 @@ Inv-loop row place₀ place = (place ≤ length row) × ((m : ℕ) → m < place
 abbrev μ-loop : tie.MeasureT-loop
 μ-loop row place₀ place = length row - place
 
-loop-holds : tie.Need-loop-holds Inv-loop μ-loop
-loop-holds c = (zero-le, λ m h. absurd (not-suc-le-zero h))
-
-shared-slice-read-if1 : tie.Need-shared-slice-read-if1 Inv-loop μ-loop
-shared-slice-read-if1 c = search needs
+greatest-requires : tie.Need-greatest-requires Inv-loop μ-loop
+greatest-requires c κs = search needs
 
 returns : tie.Need-returns Inv-loop μ-loop
 returns c =
+    record {
+      within = omega arith;
+      below = λ m h. omega (arith, c .before .greatest .ensures m h, c .if1 .taken);
+      there = λ h. absurd (omega (arith, h));
+    }
+
+loop-holds : tie.Need-loop-holds Inv-loop μ-loop
+loop-holds c = (zero-le, λ m h. absurd (not-suc-le-zero h))
+
+shared-slice-read-if2 : tie.Need-shared-slice-read-if2 Inv-loop μ-loop
+shared-slice-read-if2 c = search needs
+
+returns-2 : tie.Need-returns-2 Inv-loop μ-loop
+returns-2 c =
     let l = c .before .before .before in
-    record { within = l .loop .inv .0; below = l .loop .inv .1; there = λ h. c .if1 .taken }
+    record { within = l .loop .inv .0; below = l .loop .inv .1; there = λ h. c .if2 .taken }
 
 add-place : tie.Need-add-place Inv-loop μ-loop
 add-place c = search needs
@@ -37,10 +50,10 @@ loop-less c = search needs
 loop-again : tie.Need-loop-again Inv-loop μ-loop
 loop-again c =
     let l = c .before .before .before in
-    (search needs, below-more (λ m. getD (l .before .args .row .now) m 0 ≤ lastCell) (l .loop .place) (l .loop .inv .1) (c .if1 .left))
+    (search needs, below-more (λ m. getD (l .before .before .before .before .args .row .now) m 0 ≤ lastCell) (l .loop .place) (l .loop .inv .1) (c .if2 .left))
 
-returns-2 : tie.Need-returns-2 Inv-loop μ-loop
-returns-2 c =
+returns-3 : tie.Need-returns-3 Inv-loop μ-loop
+returns-3 c =
     let l = c .before in
     record { within = l .loop .inv .0; below = l .loop .inv .1; there = λ h. absurd (omega (arith, h, c .loop-test .left)) }
 
@@ -50,10 +63,12 @@ first-high-spec =
     (tie.spec
     Inv-loop
     μ-loop
-    loop-holds
-    shared-slice-read-if1
+    greatest-requires
     returns
+    loop-holds
+    shared-slice-read-if2
+    returns-2
     add-place
     loop-less
     loop-again
-    returns-2)
+    returns-3)

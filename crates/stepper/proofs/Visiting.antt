@@ -23,10 +23,10 @@ use Rattle.rules.proofs.Profile.{Sane, OfText, of-text, pieces-of}
 use Rattle.rules.proofs.Signs.{signs-join, filled-signs}
 use Rattle.rules.proofs.Steps.{walks, joined-signs}
 use Rattle.readings.specs.Print.{points}
-use Rattle.reader.specs.Promise.{Shows, sign-there, no-sign-there}
-use Rattle.reader.specs.Claims.{StillExactly, Visits, printBy, WalkShowsText}
+use Rattle.stepper.specs.Promise.{Shows, sign-there, no-sign-there}
+use Rattle.stepper.specs.Claims.{StillExactly, Visits, printBy, WalkShowsText}
 use Rattle.walks.specs.Walks.{CodedSign}
-use Rattle.reader.specs.declared.Shown.the-variants.{Still}
+use Rattle.stepper.specs.declared.Shown.the-variants.{Still}
 use Rattle.readings.proofs.Print.{points-width}
 
 pub shows-same : (x y : screen.Shown) → shows x ≡ shows y → x ≡ y

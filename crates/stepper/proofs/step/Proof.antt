@@ -1,4 +1,4 @@
--- `step`: three walks, one behind the other, go over the row once (`Parts`): they say whether it has a text, how long that is, and which sign starts at the
+-- `step`: three walks, one behind the other, go over the row once (`Seeing`): they say whether it has a text, how long that is, and which sign starts at the
 -- place. Assumes nothing.
 use mathlib.Core.Bool.{true, _&&_}
 use mathlib.Core.Path.{_≡_, sym, _∙_}
@@ -12,20 +12,23 @@ use Rattle.rules.specs.Refusals.{longestRow}
 use Rattle.rules.proofs.Machine.{at-rest}
 use Rattle.readings.specs.Modes.{modeOf}
 use Rattle.readings.specs.Left.{left}
 use Rattle.reader.proofs.Whole.{left-none, Told}
-use Rattle.reader.proofs.Parts.{not-so, so, Went, went, lost, not-to-end, lost-behind, few-parts, told-parts, no-sign-seen, sign-seen, one-point, two-points}
+use Rattle.reader.proofs.Parts.{Went, went, lost, not-to-end}
 use Rattle.walks.proofs.Walking.{leads-nowhere}
-use Rattle.reader.proofs.Answering.{row-long, row-long-text, step-still, step-sign, step-refused}
+use Rattle.reader.proofs.Answering.{row-long, row-long-text}
+use Rattle.stepper.proofs.Seeing.{lost-behind, few-parts, told-parts, no-sign-seen, sign-seen, one-point, two-points}
+use Rattle.stepper.proofs.Answering.{step-still, step-sign, step-refused}
 use borrow.Author.Needs.{needs}
-use Rattle.reader.proofs.step.Statement.{statement}
-use Rattle.reader.proofs.step.Tie as tie
-use Rattle.reader.proofs.step.Reads as reads
-use Rattle.reader.proofs.step.Lts as lts
+use borrow.Author.Tests.{not-true, not-false}
+use Rattle.stepper.proofs.step.Statement.{statement}
+use Rattle.stepper.proofs.step.Tie as tie
+use Rattle.stepper.proofs.step.Reads as reads
+use Rattle.stepper.proofs.step.Lts as lts
 use Rattle.reader.proofs.ends.Reads as ends-reads
 use Rattle.reader.proofs.reported_length.Reads as reported-length-reads
-use Rattle.reader.proofs.stop_before.Reads as stop-before-reads
-use Rattle.reader.proofs.stop_behind.Reads as stop-behind-reads
-use Rattle.reader.proofs.unread.Reads as unread-reads
+use Rattle.stepper.proofs.stop_before.Reads as stop-before-reads
+use Rattle.stepper.proofs.stop_behind.Reads as stop-behind-reads
+use Rattle.stepper.proofs.unread.Reads as unread-reads
 use Rattle.walks.proofs.walk.Reads as walk-reads
 
 abbrev row : tie.Start → List ℕ
@@ -258,7 +261,7 @@ unread-requires-4 c κs =
     let i = k1-of k in (
       short (from-w (w-of i)),
       left-none (row-k i)
-          (lost-behind (gone₁ i) (gone₂ j) (not-to-end (gone₃ k) (sym (c .before .ends .ensures) ∙ not-so (c .before .ends .result) (c .if2 .taken)))),
+          (lost-behind (gone₁ i) (gone₂ j) (not-to-end (gone₃ k) (sym (c .before .ends .ensures) ∙ not-true (c .before .ends .result) (c .if2 .taken)))),
     )
 
 returns-5 : tie.Need-returns-5
@@ -278,7 +281,7 @@ abbrev k-mid : T2 → K2
 k-mid e = k2-of (u-of (k-last e))
 
 ended : (e : T2) → (at-rest (modeOf (mode₃ (k-last e))) && eqb (opened₃ (k-last e)) 0) ≡ true
-ended e = sym (e .before .ends .ensures) ∙ so (e .before .ends .result) (e .if2 .left)
+ended e = sym (e .before .ends .ensures) ∙ not-false (e .before .ends .result) (e .if2 .left)
 
 abbrev told : (e : T2) → Told (left 0 0 (row-k (k-first e))) (count₁ (k-first e) + width (k-mid e) + count₃ (k-last e))
 told e = told-parts (gone₁ (k-first e)) (gone₂ (k-mid e)) (gone₃ (k-last e)) (ended e)

@@ -2,10 +2,10 @@
 use mathlib.Core.Logic.{inl, inr}
 use mathlib.Core.Path.{refl}
 use borrow.Author.Needs.{needs}
-use Rattle.reader.proofs.stop_behind.Statement.{statement}
-use Rattle.reader.proofs.stop_behind.Tie as tie
-use Rattle.reader.proofs.stop_behind.Reads as reads
-use Rattle.reader.proofs.stop_behind.Lts as lts
+use Rattle.stepper.proofs.stop_behind.Statement.{statement}
+use Rattle.stepper.proofs.stop_behind.Tie as tie
+use Rattle.stepper.proofs.stop_behind.Reads as reads
+use Rattle.stepper.proofs.stop_behind.Lts as lts
 
 add-result : tie.Need-add-result
 add-result c = search needs

@@ -1,10 +1,10 @@
 -- `stop_before`: the lesser of the two. Assumes nothing.
 use mathlib.Core.Logic.{inl, inr}
 use mathlib.Core.Path.{refl}
-use Rattle.reader.proofs.stop_before.Statement.{statement}
-use Rattle.reader.proofs.stop_before.Tie as tie
-use Rattle.reader.proofs.stop_before.Reads as reads
-use Rattle.reader.proofs.stop_before.Lts as lts
+use Rattle.stepper.proofs.stop_before.Statement.{statement}
+use Rattle.stepper.proofs.stop_before.Tie as tie
+use Rattle.stepper.proofs.stop_before.Reads as reads
+use Rattle.stepper.proofs.stop_before.Lts as lts
 
 returns : tie.Need-returns
 returns c = inl (c .if1 .taken, refl)

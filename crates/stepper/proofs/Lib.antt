@@ -1,0 +1,4 @@
+pub mod Seeing
+pub mod Answering
+pub mod Visiting
+pub mod Claims
