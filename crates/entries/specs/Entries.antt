@@ -10,7 +10,7 @@ use Rattle.rules.specs.Sorts.{Sort, Table, Class, aToJ, otherSmall, capital, on
 use Rattle.rules.specs.Signs.{ownCells, lowerCells}
 use Rattle.rules.specs.Pairs.{kinds, markOf}
 use Rattle.rules.specs.Rows.{sortIn}
-use Rattle.entries.specs.SignWords.{cellPlaces, signPlaces, signOf}
+use Rattle.entries.specs.SignWords.{cellPlaces, signOf}
 use Rattle.entries.specs.States.{free, capitals, mixed, number, lowered, ordinal, barred, under, guarded, hyphened, dashed}
 
 -- THE FIELDS, from the lowest: the states in which it is written as usual, a bit for each; the class; the pair mark; the cell of the lower digit; the sign,
@@ -49,8 +49,9 @@ markIn e = e / markAt % 16
 abbrev pub lowerIn : ℕ → ℕ
 lowerIn e = e / lowerAt % cellPlaces
 
+-- the sign, with the state after it above its cells
 abbrev pub signIn : ℕ → ℕ
-signIn e = e / signAt % signPlaces
+signIn e = e / signAt
 
 -- the first cell of the sign
 abbrev pub firstIn : ℕ → ℕ

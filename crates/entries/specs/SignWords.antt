@@ -5,7 +5,7 @@ use Prim.Native.Nat.{ℕ, _+_, _*_, _/_, _%_}
 use Rattle.rules.specs.Cells.{Row}
 use Rattle.entries.specs.Chosen.{choose}
 
--- THE FIELDS, from the lowest: how many cells; the first, the second, the third
+-- THE FIELDS, from the lowest: how many cells; the first, the second, the third. Above them anything may stand: a sign is known by its fields alone.
 abbrev pub countPlaces : ℕ
 countPlaces = 4
 
@@ -20,10 +20,6 @@ thirdCell = 16384
 
 abbrev pub cellPlaces : ℕ
 cellPlaces = 64
-
--- a sign is below this
-abbrev pub signPlaces : ℕ
-signPlaces = 1048576
 
 abbrev pub countOf : ℕ → ℕ
 countOf w = w % countPlaces

@@ -82,8 +82,6 @@ const CELL_PLACES: u64 = 64;
 
 const SIGN: u64 = 4294967296; // its sign, the upper half: its own cells, with their count before them (src/sign.rt)
 
-const SIGN_PLACES: u64 = 1048576;
-
 const COUNT: u64 = SIGN; // how many cells, at most three; then the cells
 
 const FIRST: u64 = SIGN * 4;
@@ -124,11 +122,11 @@ pub fn then_in(entry: u64) -> usize
     (entry / THEN) as usize
 }
 
-// Its own cells, with their count.
+// Its own cells, with their count. (The state after it stays above them, where nothing that reads a sign looks.)
 pub fn sign_in(entry: u64) -> u32
     ensures { λ r. ⌜ r ≡ signIn entry ⌝ }
 {
-    (entry / SIGN % SIGN_PLACES) as u32
+    (entry / SIGN) as u32
 }
 
 // The first of them.
