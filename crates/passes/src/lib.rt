@@ -1,10 +1,6 @@
 // A text to cells, in two passes: `draw` finds the sign of each code point and counts the cells, or finds the first refusal; `writing::write` writes the signs. So
 // nothing is written before all is known to fit, and no code point is looked up twice. “ ” ‹ › are looked up as what they become, « » ‘ ’ (`plainly`).
 // `transcribe_normal` is what other crates call; what the functions promise is specs/Passes.antt.
-use entries::CAPITAL;
-use entries::FREE;
-use entries::MIXED;
-use pairs::Pairs;
 use deeds::ALL_CAPITALS;
 use deeds::BARE;
 use deeds::FIRST_DIGIT;
@@ -16,6 +12,10 @@ use deeds::OUTSIDE_FORM;
 use deeds::QUESTIONS;
 use deeds::SEPARATED;
 use deeds::WAYS;
+use entries::CAPITAL;
+use entries::FREE;
+use entries::MIXED;
+use pairs::Pairs;
 ghost use mathlib.Core.Path.{_≡_};
 ghost use Prim.Native.Nat.{_≤_, _*_};
 ghost use lib.ListN.{length, take};

@@ -225,7 +225,7 @@ j-of p = p .before .before
 
 alike-requires : tie.Need-alike-requires Inv-loop μ-loop
 alike-requires c κs =
-    let p = c .before .before .before .before .before in
+    let p = c .before .before .before .before .before .before in
     let k = j-of p in
     let l = at-w (of-j k) in
     let m = mid-on (l .loop .inv) (turn2 k) (in-w (of-j k) .loop-test .taken) (p .put2 .ensures) in
@@ -241,7 +241,7 @@ enum-told-3 c = search needs
 somewhere : (c : tie.After-enum-told3 Inv-loop μ-loop) → ⊥
 somewhere c =
     let a = c .before .before .before .before in
-    let k = j-of (a .before .before .before .before .before .before) in
+    let k = j-of (a .before .before .before .before .before .before .before) in
     let l = at-w (of-j k) in
     runs-somewhere (row l) (start l .args .stop) (next2 k) (mode-after2 k) (opened-after2 k) _ _ (a .alike .ensures) (c .enum-told3 .given .1)
 
@@ -258,7 +258,7 @@ abbrev a-of : A → tie.After-alike Inv-loop μ-loop
 a-of c = c .before .before .before .before .before
 
 abbrev p-of : A → P
-p-of c = a-of c .before .before .before .before .before .before
+p-of c = a-of c .before .before .before .before .before .before .before
 
 loop-less-2 : tie.Need-loop-less-2 Inv-loop μ-loop
 loop-less-2 c =
@@ -278,11 +278,11 @@ loop-again-2 c =
     mid-more (mid-on (at-w (of-j k) .loop .inv) (turn2 k) (in-w (of-j k) .loop-test .taken) (p .put2 .ensures)) (a-of c .alike .result) (a-of c .alike .ensures) (c .before .at-last .given .1)
 
 loop-less-3 : tie.Need-loop-less-3 Inv-loop μ-loop
-loop-less-3 c = let t = turn2 (j-of (c .before .before .before .before)) in omega (arith, t .forward, t .within)
+loop-less-3 c = let t = turn2 (j-of (c .before .before .before)) in omega (arith, t .forward, t .within)
 
 loop-again-3 : tie.Need-loop-again-3 Inv-loop μ-loop
 loop-again-3 c =
-    let p = c .before .before .before .before in
+    let p = c .before .before .before in
     let k = j-of p in
     mid-on (at-w (of-j k) .loop .inv) (turn2 k) (in-w (of-j k) .loop-test .taken) (p .put2 .ensures)
 
