@@ -80,7 +80,7 @@ const LOWER: u64 = 16777216; // the cell of the lower digit
 
 const CELL_PLACES: u64 = 64;
 
-const SIGN: u64 = 4294967296; // its sign, the upper half: its own cells, with their count before them (src/sign.rt)
+const SIGN: u64 = 4294967296; // its sign, the upper half: its own cells, with their count before them and THEN above them (src/sign.rt)
 
 const COUNT: u64 = SIGN; // how many cells, at most three; then the cells
 
@@ -122,7 +122,7 @@ pub fn then_in(entry: u64) -> usize
     (entry / THEN) as usize
 }
 
-// Its own cells, with their count. (The state after it stays above them, where nothing that reads a sign looks.)
+// Its own cells, with their count. The state after it stays above them, where nothing that reads a sign looks.
 pub fn sign_in(entry: u64) -> u32
     ensures { λ r. ⌜ r ≡ signIn entry ⌝ }
 {

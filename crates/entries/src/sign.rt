@@ -3,8 +3,8 @@ ghost use mathlib.Core.Path.{_≡_};
 ghost use Prim.Native.Nat.{_≤_};
 ghost use Rattle.entries.specs.SignWords.{countOf, firstOf, secondOf, thirdOf, signOfOne, signOfTwo, signOfThree};
 
-// The fields, from the lowest: where each stands, and how many values it has room for. Above the third cell anything may stand, as the state after it in a sign
-// that is taken from a code point's word: each field is read as a remainder, and two signs with the same fields are the same cells.
+// The fields, from the lowest: where each stands, and how many values it has room for. Above the third cell anything may stand: a sign that is taken from the word
+// of a code point has there what the word has, the state after it. Each field is read as a remainder, so nothing that reads a sign looks there.
 const COUNT_PLACES: u32 = 4;
 
 const FIRST: u32 = 4; // the first cell, above the count

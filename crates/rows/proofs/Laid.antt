@@ -26,20 +26,20 @@ laid3 a b c (x ∷ []) h = absurd (not-suc-le-zero (le-of-suc-le-suc h))
 laid3 a b c (x ∷ y ∷ []) h = absurd (not-suc-le-zero (le-of-suc-le-suc (le-of-suc-le-suc h)))
 laid3 a b c (x ∷ y ∷ z ∷ l) h = refl
 
--- what a writer of up to three cells shows at each end: the count, and the row that is laid
+-- what a writer of up to three cells shows at each end: the row is laid
 module _ (row l : List ℕ) where
-  pub wrote-none : row ≡ [] → (0 ≡ length row) × (l ≡ laid row l)
-  wrote-none e = rw e (refl, refl)
+  pub wrote-none : row ≡ [] → l ≡ laid row l
+  wrote-none e = rw e refl
 
   module _ (room : length row ≤ length l) where
-    pub wrote-one : (a : ℕ) → row ≡ a ∷ [] → (1 ≡ length row) × (set l 0 a ≡ laid row l)
-    wrote-one a e = let k : 1 ≤ length l = omega (arith, ap length e) in rw e (refl, laid1 a l k)
+    pub wrote-one : (a : ℕ) → row ≡ a ∷ [] → set l 0 a ≡ laid row l
+    wrote-one a e = let k : 1 ≤ length l = omega (arith, ap length e) in rw e (laid1 a l k)
 
-    pub wrote-two : (a b : ℕ) → row ≡ a ∷ b ∷ [] → (2 ≡ length row) × (set (set l 0 a) 1 b ≡ laid row l)
-    wrote-two a b e = let k : 2 ≤ length l = omega (arith, ap length e) in rw e (refl, laid2 a b l k)
+    pub wrote-two : (a b : ℕ) → row ≡ a ∷ b ∷ [] → set (set l 0 a) 1 b ≡ laid row l
+    wrote-two a b e = let k : 2 ≤ length l = omega (arith, ap length e) in rw e (laid2 a b l k)
 
-    pub wrote-three : (a b c : ℕ) → row ≡ a ∷ b ∷ c ∷ [] → (3 ≡ length row) × (set (set (set l 0 a) 1 b) 2 c ≡ laid row l)
-    wrote-three a b c e = let k : 3 ≤ length l = omega (arith, ap length e) in rw e (refl, laid3 a b c l k)
+    pub wrote-three : (a b c : ℕ) → row ≡ a ∷ b ∷ c ∷ [] → set (set (set l 0 a) 1 b) 2 c ≡ laid row l
+    wrote-three a b c e = let k : 3 ≤ length l = omega (arith, ap length e) in rw e (laid3 a b c l k)
 
 pub length-laid : (row l : List ℕ) → length row ≤ length l → length (laid row l) ≡ length l
 length-laid row l h = simp (length-append, length-drop) (omega arith)

@@ -1,6 +1,6 @@
 -- The second pass in the middle of the signs: the lent row, with the cells of the signs still to come laid behind what is written, is the row that it will
 -- be (`Wid`). Assumes nothing.
-use mathlib.Core.Path.{_≡_, refl, sym, ap, _∙_}
+use mathlib.Core.Path.{_≡_, refl, sym, ap, _∙_, subst}
 use mathlib.Core.List.{List, _++_}
 use Prim.Native.Nat.{ℕ, _+_, _-_, _≤_, _<_, zero-le}
 use native.Mathlib.Omega.{arith}
@@ -47,10 +47,9 @@ module _ (signs row₀ : List ℕ) where
       pub wid-few : n + length here ≤ length row
       wid-few = omega (arith, fits-row, length-append here rest)
 
-      -- what it left there is a turn
-      pub wid-on : (r : ℕ) (left : List ℕ) → r ≡ length here → left ≡ laid here (take (length row - n) (drop n row))
+      turn : (r : ℕ) (left : List ℕ) → r ≡ length here → left ≡ laid here (take (length row - n) (drop n row))
           → Wid signs row₀ (putMid n (length row - n) row left) (n + r) (i + 1)
-      wid-on r left count wrote =
+      turn r left count wrote =
           record {
             inside = omega arith;
             same = turn-length row n here rest left r fits-row count wrote ∙ m .same;
@@ -59,6 +58,11 @@ module _ (signs row₀ : List ℕ) where
                 turn-row row n here rest left r fits-row count wrote
                 ∙ ap (λ (x : Row). take n row ++ laid x (drop n row)) (sym row-is) ∙ m .laid-on;
           }
+
+      -- what it left there is a turn
+      pub wid-on : (r : ℕ) (left new : List ℕ) → r ≡ length here → left ≡ laid here (take (length row - n) (drop n row))
+          → new ≡ putMid n (length row - n) row left → Wid signs row₀ new (n + r) (i + 1)
+      wid-on r left new count wrote is-new = subst (λ (x : List ℕ). Wid signs row₀ x (n + r) (i + 1)) (sym is-new) (turn r left count wrote)
 
     pub wid-end : length signs ≤ i → (n ≡ length (joined signs)) × (row ≡ laid (joined signs) row₀)
     wid-end l = turn-end row row₀ n (joined (drop i signs)) (joined signs) (joined-end signs i l) (m .count) (m .laid-on)
