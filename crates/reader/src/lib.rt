@@ -1,6 +1,6 @@
 // Cells to print: `read` reads a whole row; what it promises is specs/Promise.antt. (The sign at one place of a row: crates/stepper.)
 // One loop walks the row sign by sign (crates/walks). Between two signs it knows a mode and which pairs are open; both follow from the cells before, and neither is kept
-// from one call to the next. The row is walked once. `read` asks first for a byte that is no cell, has a draft written, a text of its own, and copies it to the
+// from one call to the next. The row is walked once. `read` has a draft written, a text of its own, and copies it to the
 // lent text when all is known to fit: so nothing is written before.
 use readings::FREE;
 use readings::NO_POINT;
@@ -13,14 +13,15 @@ ghost use mathlib.Core.Path.{_≡_};
 ghost use Prim.Native.Nat.{ℕ, _*_, _≤_, _<_};
 ghost use lib.Dec.{eqb};
 ghost use lib.ListN.{length, getD};
+ghost use Rattle.rules.specs.Cells.{Text};
 ghost use Rattle.rules.specs.Castilian.{castilian};
-ghost use Rattle.rules.specs.Refusals.{longestText, reported};
-ghost use Rattle.rules.specs.Answers.{ProperRow};
+ghost use Rattle.rules.specs.Rows.{Reads};
+ghost use Rattle.rules.specs.Refusals.{longestRow, longestText, reported};
 ghost use Rattle.rules.proofs.Machine.{at-rest};
 ghost use Rattle.rows.specs.Laid.{laid};
 ghost use Rattle.readings.specs.Modes.{modeOf, modeCount};
 ghost use Rattle.reader.specs.Promise.{Read};
-ghost use Rattle.reader.specs.Passes.{FirstHigh};
+ghost use Rattle.reader.specs.Passes.{FirstHigh, RefusesRow};
 
 // The answer to a row. `Done` has the count of code points written; any other is a refusal, and the lent text is then as it was. Paper 01's number and
 // second number for each are given by `Promise.refusalOf`.
@@ -45,6 +46,10 @@ pub const LONGEST_TEXT: usize = 4096;
 const SHORT_ROW: usize = 64;
 
 const SHORT_DRAFT: usize = 128;
+
+const LINE_ROW: usize = 128;
+
+const LINE_DRAFT: usize = 256;
 
 const MIDDLE_ROW: usize = 512;
 
@@ -87,7 +92,7 @@ fn greatest(row: &[u8]) -> u8
 }
 
 // The place of the first byte above 63, or the row's length. (Few rows have one, and the greatest byte says so fastest.)
-pub fn first_high(row: &[u8]) -> usize
+fn first_high(row: &[u8]) -> usize
     ensures { λ r. ⌜ FirstHigh (now (row .entry)) r ⌝ }
 {
     if greatest(row) <= LAST_CELL {
@@ -103,6 +108,18 @@ pub fn first_high(row: &[u8]) -> usize
     place
 }
 
+// Why a row has no text: a byte of it is no cell, or no text of any length has these cells.
+pub fn unread(row: &[u8]) -> Answer
+    requires { ⌜ (length (now row) ≤ longestRow) × ((t : Text) → Reads castilian (now row) t → ⊥) ⌝ }
+    ensures { λ r. ⌜ RefusesRow castilian (now (row .entry)) r ⌝ }
+{
+    let high = first_high(row);
+    if high < row.len() {
+        return Answer::NotACell(high);
+    }
+    Answer::NoText
+}
+
 // A draft, to the front of the lent text.
 fn copy(draft: &[u32], text: &mut [u32])
     requires { ⌜ length (now draft) ≤ length (now text) ⌝ }
@@ -115,10 +132,10 @@ fn copy(draft: &[u32], text: &mut [u32])
     }
 }
 
-// Reads a row of cells by way of a draft, which has room for any text of the row, or for the longest that is accepted. The walk is lent nothing that the caller
+// Reads a row by way of a draft, which has room for any text of the row, or for the longest that is accepted. The walk is lent nothing that the caller
 // lent, so a refusal leaves that as it was. (One walk and a copy are faster than two walks, the first without room.)
 fn read_by(row: &[u8], draft: &mut [u32], text: &mut [u32]) -> Answer
-    requires { ⌜ ProperRow (now row) × ((2 * length (now row) ≤ length (now draft)) ⊎ (longestText ≤ length (now draft))) ⌝ }
+    requires { ⌜ (length (now row) ≤ longestRow) × ((2 * length (now row) ≤ length (now draft)) ⊎ (longestText ≤ length (now draft))) ⌝ }
     ensures { λ r. ⌜ Read castilian (now (row .entry)) (now (text .entry)) r (now (text .exit)) ⌝ }
 {
     let walked = walk(row, 0, row.len(), FREE, 0, draft);
@@ -129,10 +146,10 @@ fn read_by(row: &[u8], draft: &mut [u32], text: &mut [u32]) -> Answer
         count,
     } = walked
     else {
-        return Answer::NoText;
+        return unread(row);
     };
     if !ends(mode, opened) {
-        return Answer::NoText;
+        return unread(row);
     }
     if LONGEST_TEXT < count {
         return Answer::TooLong(count);
@@ -146,20 +163,25 @@ fn read_by(row: &[u8], draft: &mut [u32], text: &mut [u32]) -> Answer
 
 // Cells to print: the answer of the rules for any row and any lent text, which then holds the text from its first element on and is otherwise as it was.
 // Two wrong programs that the promise shuts out: one that says that every row has no text, and one that writes before it knows that the row has one.
-// (A row with a byte that is no cell is not walked for nothing. A draft is cleared before it is used, so a short row has a short one.)
+// (A draft is cleared before it is used, so a short row has a short one. A longer row with a byte that is no cell is not walked for nothing; to ask that of a short
+// one would cost more than its walk.)
 pub fn read(row: &[u8], text: &mut [u32]) -> Answer
     ensures { λ r. ⌜ Read castilian (now (row .entry)) (now (text .entry)) r (now (text .exit)) ⌝ }
 {
     if LONGEST_ROW < row.len() {
         return Answer::TooLong(reported_length(row.len()));
     }
-    let high = first_high(row);
-    if high < row.len() {
-        return Answer::NotACell(high);
-    }
     if row.len() <= SHORT_ROW {
         let mut draft = [NO_POINT; SHORT_DRAFT];
         return read_by(row, &mut draft, text);
+    }
+    if row.len() <= LINE_ROW {
+        let mut draft = [NO_POINT; LINE_DRAFT];
+        return read_by(row, &mut draft, text);
+    }
+    let stray = first_high(row);
+    if stray < row.len() {
+        return Answer::NotACell(stray);
     }
     if row.len() <= MIDDLE_ROW {
         let mut draft = [NO_POINT; MIDDLE_DRAFT];

@@ -5,8 +5,8 @@ use reader::Answer;
 use reader::LONGEST_ROW;
 use reader::LONGEST_TEXT;
 use reader::ends;
-use reader::first_high;
 use reader::reported_length;
+use reader::unread;
 use readings::FREE;
 use readings::NO_POINT;
 use walks::Walked;
@@ -14,12 +14,7 @@ use walks::walk;
 ghost use mathlib.Core.Logic.{_⊎_};
 ghost use mathlib.Core.Path.{_≡_};
 ghost use Prim.Native.Nat.{_+_, _≤_, _<_};
-ghost use lib.ListN.{length};
-ghost use Rattle.rules.specs.Cells.{Text};
 ghost use Rattle.rules.specs.Castilian.{castilian};
-ghost use Rattle.rules.specs.Rows.{Reads};
-ghost use Rattle.rules.specs.Refusals.{longestRow};
-ghost use Rattle.reader.specs.Passes.{RefusesRow};
 ghost use Rattle.stepper.specs.Promise.{Shows};
 
 // What a step shows: the print of the sign that starts at the place, and the place after it (`lead` is NO_POINT where the sign has one code point); no code
@@ -28,18 +23,6 @@ pub enum Shown {
     Sign { lead: u32, point: u32, next: usize },
     Still,
     Refused(Answer),
-}
-
-// Why a row has no text: a byte of it is no cell, or no text of any length has these cells.
-fn unread(row: &[u8]) -> Answer
-    requires { ⌜ (length (now row) ≤ longestRow) × ((t : Text) → Reads castilian (now row) t → ⊥) ⌝ }
-    ensures { λ r. ⌜ RefusesRow castilian (now (row .entry)) r ⌝ }
-{
-    let high = first_high(row);
-    if high < row.len() {
-        return Answer::NotACell(high);
-    }
-    Answer::NoText
 }
 
 // Up to where a step walks before the sign at its place.

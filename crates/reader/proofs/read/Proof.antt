@@ -1,12 +1,11 @@
--- `read`: a row that is too long is refused, and so is one with a byte that is no cell; any other is read by way of a draft that has room: two code points a
--- cell, or the longest text. Assumes nothing.
+-- `read`: a row that is too long is refused, and so is a longer one with a byte that is no cell; any other is read by way of a draft that has room: two code
+-- points a cell, or the longest text. Assumes nothing.
 use mathlib.Core.Path.{refl}
 use mathlib.Core.List.{List}
 use mathlib.Core.Logic.{inl, inr}
 use Prim.Native.Nat.{ℕ}
 use native.Mathlib.Omega.{arith}
-use Rattle.rules.specs.Answers.{ProperRow}
-use Rattle.reader.proofs.Answering.{row-long, row-not-cells, row-proper, read-refused}
+use Rattle.reader.proofs.Answering.{row-long, row-not-cells, read-refused}
 use borrow.Author.Needs.{needs}
 use Rattle.reader.proofs.read.Statement.{statement}
 use Rattle.reader.proofs.read.Tie as tie
@@ -30,54 +29,46 @@ returns c =
     let s = c .before .before .before .before in
     read-refused (row s) _ (row-long (row s) _ (omega (arith, c .before .if1 .taken)) (c .reported-length .ensures)) (lent s) (lent s) refl
 
-first-high-requires : tie.Need-first-high-requires
-first-high-requires c κs = search needs
-
-returns-2 : tie.Need-returns-2
-returns-2 c =
-    let f = c .before in
-    let s = f .before .before .before .before in
-    read-refused (row s) _ (row-not-cells (row s) (f .before .if1 .left) _ (f .first-high .ensures) (c .if2 .taken)) (lent s) (lent s) refl
-
--- EVERY BYTE IS A CELL
-abbrev E : Type 0
-E = tie.Else2
-
-abbrev start : E → tie.Start
-start e = e .before .before .before .before .before
-
-proper : (e : E) → ProperRow (row (start e))
-proper e = row-proper (row (start e)) (e .before .before .if1 .left) _ (e .before .first-high .ensures) (e .if2 .left)
-
+-- A SHORT ROW
 slice-aggregate-read-by : tie.Need-slice-aggregate-read-by
 slice-aggregate-read-by c = search needs
 
 read-by-requires : tie.Need-read-by-requires
-read-by-requires c κs = (proper (c .before .before .before), inl (omega arith))
+read-by-requires c κs = (omega arith, inl (omega arith))
 
 same-length : tie.Need-same-length
 same-length c = search needs
 
-returns-3 : tie.Need-returns-3
-returns-3 c = search needs
+returns-2 : tie.Need-returns-2
+returns-2 c = search needs
 
 slice-aggregate-read-by-2 : tie.Need-slice-aggregate-read-by-2
 slice-aggregate-read-by-2 c = search needs
 
 read-by-requires-2 : tie.Need-read-by-requires-2
-read-by-requires-2 c κs = (proper (c .before .before .before .before), inl (omega arith))
+read-by-requires-2 c κs = (omega arith, inl (omega arith))
 
 same-length-2 : tie.Need-same-length-2
 same-length-2 c = search needs
 
+returns-3 : tie.Need-returns-3
+returns-3 c = search needs
+
+-- a longer one
+first-high-requires : tie.Need-first-high-requires
+first-high-requires c κs = search needs
+
 returns-4 : tie.Need-returns-4
-returns-4 c = search needs
+returns-4 c =
+    let f = c .before in
+    let s = f .before .before .before .before .before .before in
+    read-refused (row s) _ (row-not-cells (row s) (omega arith) _ (f .first-high .ensures) (c .if4 .taken)) (lent s) (lent s) refl
 
 slice-aggregate-read-by-3 : tie.Need-slice-aggregate-read-by-3
 slice-aggregate-read-by-3 c = search needs
 
 read-by-requires-3 : tie.Need-read-by-requires-3
-read-by-requires-3 c κs = (proper (c .before .before .before .before), inr (omega arith))
+read-by-requires-3 c κs = (omega arith, inl (omega arith))
 
 same-length-3 : tie.Need-same-length-3
 same-length-3 c = search needs
@@ -85,23 +76,39 @@ same-length-3 c = search needs
 returns-5 : tie.Need-returns-5
 returns-5 c = search needs
 
+slice-aggregate-read-by-4 : tie.Need-slice-aggregate-read-by-4
+slice-aggregate-read-by-4 c = search needs
+
+read-by-requires-4 : tie.Need-read-by-requires-4
+read-by-requires-4 c κs = (omega arith, inr (omega arith))
+
+same-length-4 : tie.Need-same-length-4
+same-length-4 c = search needs
+
+returns-6 : tie.Need-returns-6
+returns-6 c = search needs
+
 pub read-spec : {M : Type 1} → statement M
 read-spec =
     tie.close
     (tie.spec
     reported-length-requires
     returns
-    first-high-requires
-    returns-2
     slice-aggregate-read-by
     read-by-requires
     same-length
-    returns-3
+    returns-2
     slice-aggregate-read-by-2
     read-by-requires-2
     same-length-2
+    returns-3
+    first-high-requires
     returns-4
     slice-aggregate-read-by-3
     read-by-requires-3
     same-length-3
-    returns-5)
+    returns-5
+    slice-aggregate-read-by-4
+    read-by-requires-4
+    same-length-4
+    returns-6)

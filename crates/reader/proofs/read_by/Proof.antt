@@ -2,21 +2,17 @@
 -- The lent text is as it was until the draft is copied to it. Assumes nothing.
 use mathlib.Core.Path.{_≡_, refl, sym, ap, _∙_}
 use mathlib.Core.List.{List}
-use mathlib.Core.Option.{none}
 use Prim.Native.Nat.{ℕ, _≤_}
 use native.Mathlib.Omega.{arith}
 use lib.ListN.{length, take}
 use lib.Seq.{length-take-le}
 use Rattle.rules.specs.Signs.{printOf}
-use Rattle.rules.specs.Castilian.{castilian}
 use Rattle.rows.specs.Laid.{laid}
 use Rattle.readings.specs.Left.{left}
 use Rattle.walks.specs.Walks.{Wrote}
-use Rattle.reader.specs.Promise.{Read}
-use Rattle.reader.specs.declared.Answer.the-variants.{NoText}
 use Rattle.reader.proofs.Whole.{left-none, Told}
 use Rattle.reader.proofs.Parts.{Went, went, lost, not-to-end, told-whole, room-whole, written-whole}
-use Rattle.reader.proofs.Answering.{row-no-text, row-long-text, read-cramped, read-done, read-refused}
+use Rattle.reader.proofs.Answering.{row-long-text, read-cramped, read-done, read-refused}
 use borrow.Author.Needs.{needs}
 use borrow.Author.Tests.{not-true, not-false}
 use Rattle.reader.proofs.read_by.Statement.{statement}
@@ -25,6 +21,7 @@ use Rattle.reader.proofs.read_by.Reads as reads
 use Rattle.reader.proofs.read_by.Lts as lts
 use Rattle.reader.proofs.copy.Reads as copy-reads
 use Rattle.reader.proofs.ends.Reads as ends-reads
+use Rattle.reader.proofs.unread.Reads as unread-reads
 use Rattle.walks.proofs.walk.Reads as walk-reads
 
 abbrev row : tie.Start → List ℕ
@@ -64,10 +61,6 @@ opened k = k .before .walked .given .0 .1 .1 .0
 abbrev count : K → ℕ
 count k = k .before .walked .given .0 .1 .1 .1 .0
 
--- every byte is a cell: where nothing is read, no text has the row
-no-text : (s : tie.Start) → left 0 0 (row s) ≡ none → Read castilian (row s) (lent s) NoText (lent s)
-no-text s e = read-refused (row s) NoText (row-no-text (row s) (s .pre .0) (left-none (row s) e)) (lent s) (lent s) refl
-
 walk-requires : tie.Need-walk-requires
 walk-requires c κs = search needs
 
@@ -77,14 +70,19 @@ enum-known-walked c = search needs
 enum-told : tie.Need-enum-told
 enum-told c = search needs
 
+unread-requires : tie.Need-unread-requires
+unread-requires c κs =
+    let w = c .before .before .before .before in
+    let s = start-w w in
+    (s .pre .0, left-none (row s) (lost (row s) (length (row s)) 0 0 0 (w .walk .result) (w .walk .ensures) (c .enum-told .given .1)))
+
 same-length-1 : tie.Need-same-length
 same-length-1 c = search needs
 
 returns : tie.Need-returns
 returns c =
-    let w = c .before .before .before .before in
-    let s = start-w w in
-    no-text s (lost (row s) (length (row s)) 0 0 0 (w .walk .result) (w .walk .ensures) (c .enum-told .given .1))
+    let s = start-w (c .before .before .before .before .before) in
+    read-refused (row s) _ (c .unread .ensures) (lent s) (lent s) refl
 
 -- what the walk found, and what it wrote
 abbrev back : K → List ℕ
@@ -101,13 +99,18 @@ gone k = found k .0
 ends-requires : tie.Need-ends-requires
 ends-requires c κs = gone c .leads .mode
 
+unread-requires-2 : tie.Need-unread-requires-2
+unread-requires-2 c κs =
+    let k = c .before .before in
+    (start k .pre .0, left-none (row (start k)) (not-to-end (gone k) (sym (c .before .ends .ensures) ∙ not-true (c .before .ends .result) (c .if1 .taken))))
+
 same-length-2 : tie.Need-same-length-2
 same-length-2 c = search needs
 
 returns-2 : tie.Need-returns-2
 returns-2 c =
-    let k = c .before .before in
-    no-text (start k) (not-to-end (gone k) (sym (c .before .ends .ensures) ∙ not-true (c .before .ends .result) (c .if1 .taken)))
+    let s = start (c .before .before .before) in
+    read-refused (row s) _ (c .unread2 .ensures) (lent s) (lent s) refl
 
 -- the row has a text
 abbrev E : Type 0
@@ -126,7 +129,7 @@ returns-3 : tie.Need-returns-3
 returns-3 c =
     let e = c .before in
     let s = start (k-of e) in
-    read-refused (row s) _ (row-long-text (row s) (s .pre .0 .short) (told e) (omega (arith, c .if2 .taken))) (lent s) (lent s) refl
+    read-refused (row s) _ (row-long-text (row s) (s .pre .0) (told e) (omega (arith, c .if2 .taken))) (lent s) (lent s) refl
 
 same-length-4 : tie.Need-same-length-4
 same-length-4 c = search needs
@@ -135,7 +138,7 @@ returns-4 : tie.Need-returns-4
 returns-4 c =
     let e = c .before .before in
     let s = start (k-of e) in
-    read-cramped (row s) (s .pre .0 .short) (told e) (lent s) (lent s) refl (c .before .if2 .left) (c .if3 .taken)
+    read-cramped (row s) (s .pre .0) (told e) (lent s) (lent s) refl (c .before .if2 .left) (c .if3 .taken)
 
 -- and it fits
 roomy : (c : tie.Else2) → count (k-of (c .before)) ≤ length (draft (start (k-of (c .before))))
@@ -168,7 +171,7 @@ returns-5 c =
     let e = f .before .before in
     let k = k-of e in
     let s = start k in
-    read-done (row s) (s .pre .0 .short) (told e) (lent s) _
+    read-done (row s) (s .pre .0) (told e) (lent s) _
     (p .copy .ensures ∙ ap (λ (t : List ℕ). laid t (lent s)) (written-whole (gone k) (draft s) (back k) (found k .1) (roomy (f .before))))
     (f .before .if2 .left) (f .if3 .left)
 
@@ -179,9 +182,11 @@ read-by-spec =
     walk-requires
     enum-known-walked
     enum-told
+    unread-requires
     same-length-1
     returns
     ends-requires
+    unread-requires-2
     same-length-2
     returns-2
     same-length-3

@@ -28,7 +28,7 @@ use Rattle.reader.proofs.ends.Reads as ends-reads
 use Rattle.reader.proofs.reported_length.Reads as reported-length-reads
 use Rattle.stepper.proofs.stop_before.Reads as stop-before-reads
 use Rattle.stepper.proofs.stop_behind.Reads as stop-behind-reads
-use Rattle.stepper.proofs.unread.Reads as unread-reads
+use Rattle.reader.proofs.unread.Reads as unread-reads
 use Rattle.walks.proofs.walk.Reads as walk-reads
 
 abbrev row : tie.Start → List ℕ

@@ -1,11 +1,11 @@
 -- `unread`: a byte that is no cell is the refusal; and where there is none, that no text has the row. Assumes nothing.
 use borrow.Author.Needs.{needs}
 use Rattle.reader.proofs.Answering.{row-not-cells, row-proper, row-no-text}
-use Rattle.stepper.proofs.unread.Statement.{statement}
-use Rattle.stepper.proofs.unread.Tie as tie
-use Rattle.stepper.proofs.unread.Reads as reads
-use Rattle.stepper.proofs.unread.Lts as lts
+use Rattle.reader.proofs.unread.Statement.{statement}
+use Rattle.reader.proofs.unread.Tie as tie
+use Rattle.reader.proofs.unread.Reads as reads
+use Rattle.reader.proofs.unread.Lts as lts
 use Rattle.reader.proofs.first_high.Reads as first-high-reads
 
 first-high-requires : tie.Need-first-high-requires
 first-high-requires c κs = search needs
