@@ -23,8 +23,9 @@ use Rattle.readings.proofs.Print.{known}
 use Rattle.desk.specs.declared.Sign as desk
 use Rattle.desk.specs.Shows.{readOf, pointsOf, signOf, ShowsSign}
 use Rattle.utf8.specs.Encoding.{encodedOf}
-use Rattle.printing.specs.Printed.{decimalOf, lineEnd, blank, refusalLine, Prints}
+use Rattle.printing.specs.Printed.{decimalOf, Prints}
 use Rattle.printing.proofs.Printed.{prints-as, prints-on, prints-within}
+use Rattle.replies.specs.Replies.{lineEnd, blank, refusalLine}
 use Rattle.patterns.specs.Patterns.{rowOf, ShowsRow}
 use Rattle.patterns.proofs.Patterns.{row-is}
 use Rattle.proofing.specs.Steps.{colon, signLine, signLines, StepsPrints, prints-signs, prints-refusal, StepsLine}

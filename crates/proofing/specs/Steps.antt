@@ -13,7 +13,8 @@ use Rattle.rules.specs.Rows.{signsOf}
 use Rattle.rules.specs.Refusals.{Refusal}
 use Rattle.rules.specs.Answers.{RowRefused, ReadsAs}
 use Rattle.utf8.specs.Decoding.{decoded}
-use Rattle.printing.specs.Printed.{decimalOf, bytesOfText, lineEnd, blank, noLine, Prints}
+use Rattle.printing.specs.Printed.{decimalOf, bytesOfText, Prints}
+use Rattle.replies.specs.Replies.{lineEnd, blank, noLine}
 use Rattle.patterns.specs.Patterns.{rowOf}
 
 abbrev pub colon : ℕ

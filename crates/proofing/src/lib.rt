@@ -1,13 +1,13 @@
 // What the line program `steps` prints for a line: the proofing screen on paper. Each sign is shown by a step that is given the row and the place alone.
 use desk::Sign;
 use patterns::row_of;
-use printing::BLANK;
-use printing::LINE_END;
 use printing::put;
 use printing::put_all;
 use printing::put_number;
 use printing::put_point;
-use printing::put_refusal;
+use replies::BLANK;
+use replies::LINE_END;
+use replies::put_refusal;
 ghost use Prim.Native.Nat.{_≤_};
 ghost use lib.ListN.{length};
 ghost use Rattle.printing.specs.Printed.{Prints};

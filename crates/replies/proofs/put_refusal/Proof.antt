@@ -1,13 +1,13 @@
 -- `put_refusal`: the six parts of the line, each behind the one before. Assumes nothing.
-use Rattle.printing.proofs.Printed.{line-refusal}
+use Rattle.replies.proofs.Replies.{line-refusal}
 use borrow.Author.Needs.{needs}
-use Rattle.printing.proofs.put_refusal.Statement.{statement}
-use Rattle.printing.proofs.put_refusal.Tie as tie
-use Rattle.printing.proofs.put_refusal.Reads as reads
-use Rattle.printing.proofs.put_refusal.Lts as lts
+use Rattle.replies.proofs.put_refusal.Statement.{statement}
+use Rattle.replies.proofs.put_refusal.Tie as tie
+use Rattle.replies.proofs.put_refusal.Reads as reads
+use Rattle.replies.proofs.put_refusal.Lts as lts
 use Rattle.printing.proofs.put.Reads as put-reads
 use Rattle.printing.proofs.put_all.Reads as put-all-reads
 use Rattle.printing.proofs.put_number.Reads as put-number-reads
 
 slice-aggregate-put-all : tie.Need-slice-aggregate-put-all
 slice-aggregate-put-all c = search needs

@@ -1,12 +1,12 @@
 -- `long_line`: the word, and the line's end behind it. Assumes nothing.
-use Rattle.printing.proofs.Printed.{line-long}
+use Rattle.replies.proofs.Replies.{line-long}
 use borrow.Author.Needs.{needs}
-use Rattle.printing.proofs.long_line.Statement.{statement}
-use Rattle.printing.proofs.long_line.Tie as tie
-use Rattle.printing.proofs.long_line.Reads as reads
-use Rattle.printing.proofs.long_line.Lts as lts
+use Rattle.replies.proofs.long_line.Statement.{statement}
+use Rattle.replies.proofs.long_line.Tie as tie
+use Rattle.replies.proofs.long_line.Reads as reads
+use Rattle.replies.proofs.long_line.Lts as lts
 use Rattle.printing.proofs.put.Reads as put-reads
 use Rattle.printing.proofs.put_all.Reads as put-all-reads
 
 slice-aggregate-put-all : tie.Need-slice-aggregate-put-all
 slice-aggregate-put-all c = search needs
