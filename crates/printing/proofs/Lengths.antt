@@ -7,8 +7,7 @@ use native.Mathlib.Omega.{arith}
 use lib.Dec.{ltb}
 use lib.ListN.{length, length-append}
 use Rattle.rules.specs.Cells.{Text}
-use Rattle.utf8.specs.Decoding.{replacement}
-use Rattle.utf8.specs.Encoding.{isScalar, bytesOf, encodedOf}
+use Rattle.encoding.specs.Encoding.{isScalar, bytesOf, replacement, encodedOf}
 use Rattle.printing.specs.Printed.{digitsOf, decimalOf, bytesOfText}
 
 -- DIGITS

@@ -11,9 +11,9 @@ use lib.ListN.{length, getD, take, drop, set, length-append, length-set, drop-of
 use lib.Seq.{sets, length-sets, sets-eq, set-out, drop-cons, take-all}
 use Rattle.rows.specs.Laid.{laid}
 use Rattle.rows.proofs.Laid.{front}
+use Rattle.rows.proofs.Stored.{stored-past}
 use Rattle.rules.proofs.Finite.{le-or-lt}
-use Rattle.utf8.specs.Encoding.{encodedOf, Encoded}
-use Rattle.utf8.proofs.Decoding.{stored-past}
+use Rattle.encoding.specs.Encoding.{encodedOf, Encoded}
 use Rattle.printing.specs.Printed.{bytesOfText, charactersOf, Prints}
 
 -- NOTHING

@@ -8,7 +8,7 @@ use lib.Dec.{ltb}
 use lib.ListN.{length}
 use lib.Seq.{sets}
 use Rattle.rules.specs.Cells.{Text, Row}
-use Rattle.utf8.specs.Encoding.{encodedOf}
+use Rattle.encoding.specs.Encoding.{encodedOf}
 
 -- A NUMBER IN DECIMAL, with no nought in front: of at most `fuel` digits; a number of the machine, below 2 ^ 64, has at most 20
 abbrev pub digitsOf : ℕ → ℕ → List ℕ

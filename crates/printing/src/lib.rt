@@ -3,7 +3,7 @@
 ghost use mathlib.Core.List.{[], _∷_};
 ghost use mathlib.Core.Path.{_≡_};
 ghost use Prim.Native.Nat.{_+_};
-ghost use Rattle.utf8.specs.Encoding.{encodedOf};
+ghost use Rattle.encoding.specs.Encoding.{encodedOf};
 ghost use Rattle.printing.specs.Printed.{decimalOf, bytesOfText, charactersOf, Prints};
 
 // "one character U+2800 plus the cell for each cell"
@@ -37,7 +37,7 @@ pub fn put_point(out: &mut [u8], at: usize, point: u32) -> usize
     ensures { λ r. ⌜ Prints (now (out .entry)) at (encodedOf point) r (now (out .exit)) ⌝ }
 {
     let mut bytes = [0u8; 4];
-    let n = utf8::encode(point, &mut bytes);
+    let n = encoding::encode(point, &mut bytes);
     put_all(out, at, &bytes[..n])
 }
 

@@ -12,9 +12,9 @@ use Rattle.rules.specs.Castilian.{castilian}
 use Rattle.rules.specs.Normal.{normalOf}
 use Rattle.rules.specs.Answers.{gives, PrintAnswer, RowAnswer, read}
 use Rattle.rules.proofs.Demands.{reads-back}
-use Rattle.utf8.specs.Encoding.{isScalar, encodedOf}
-use Rattle.utf8.proofs.Encoding.{scalar-is, three-bytes}
-use Rattle.utf8.proofs.Inverse.{decoded-encoded}
+use Rattle.encoding.specs.Encoding.{isScalar, encodedOf}
+use Rattle.encoding.proofs.Encoding.{scalar-is, three-bytes}
+use Rattle.utf8.proofs.Claims.{decoded-encoded}
 use Rattle.printing.specs.Printed.{charactersOf}
 use Rattle.patterns.specs.Patterns.{byteOf, rowOf}
 

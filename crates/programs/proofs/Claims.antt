@@ -16,7 +16,7 @@ use Rattle.rules.proofs.Demands.{worked}
 use Rattle.rules.proofs.Finite.{le-or-lt}
 use Rattle.lines.specs.Lines.{linesOf}
 use Rattle.utf8.specs.Decoding.{decoded}
-use Rattle.utf8.specs.Encoding.{encodedOf}
+use Rattle.encoding.specs.Encoding.{encodedOf}
 use Rattle.printing.specs.Printed.{charactersOf, bytesOfText}
 use Rattle.replies.specs.Replies.{okLine, noLine, refusalLine, longLine, lineEnd}
 use Rattle.printouts.specs.Lines.{prints-cells, prints-refusal}

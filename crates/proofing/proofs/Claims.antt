@@ -16,7 +16,7 @@ use Rattle.rules.specs.Screen as screen
 use Rattle.rules.specs.Screen.{StepAnswer, shows, stays, Stepped, stepped, stayed}
 use Rattle.rules.proofs.Demands.{every-step-answered, one-step-answer, one-text, signs-join}
 use Rattle.reader.proofs.Claims.{returns-the-text}
-use Rattle.utf8.specs.Encoding.{encodedOf}
+use Rattle.encoding.specs.Encoding.{encodedOf}
 use Rattle.printing.specs.Printed.{bytesOfText}
 use Rattle.replies.specs.Replies.{lineEnd, noLine}
 use Rattle.printing.proofs.Printed.{prints-as}

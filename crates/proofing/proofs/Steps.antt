@@ -22,7 +22,7 @@ use Rattle.reader.specs.Promise.{refusalOf, numbersOf, Shows, sign-there, no-si
 use Rattle.readings.proofs.Print.{known}
 use Rattle.desk.specs.declared.Sign as desk
 use Rattle.desk.specs.Shows.{readOf, pointsOf, signOf, ShowsSign}
-use Rattle.utf8.specs.Encoding.{encodedOf}
+use Rattle.encoding.specs.Encoding.{encodedOf}
 use Rattle.printing.specs.Printed.{decimalOf, Prints}
 use Rattle.printing.proofs.Printed.{prints-as, prints-on, prints-within}
 use Rattle.replies.specs.Replies.{lineEnd, blank, refusalLine}

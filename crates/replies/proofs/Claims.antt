@@ -1,6 +1,6 @@
 -- The claims of specs/Claims.antt: the worked forms are computed. Assumes nothing.
 use mathlib.Core.Path.{refl}
-use Rattle.utf8.specs.Encoding.{encodedOf}
+use Rattle.encoding.specs.Encoding.{encodedOf}
 use Rattle.replies.specs.Claims.{WorkedForms}
 
 pub worked-forms : WorkedForms
