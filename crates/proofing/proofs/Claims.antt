@@ -22,7 +22,8 @@ use Rattle.replies.specs.Replies.{lineEnd, noLine}
 use Rattle.printing.proofs.Printed.{prints-as}
 use Rattle.printing.proofs.Claims.{one-printed, printed-in-front}
 use Rattle.patterns.specs.Patterns.{rowOf}
-use Rattle.proofing.specs.Steps.{signLines, StepsPrints, prints-signs, prints-refusal}
+use Rattle.sign_lines.specs.Signs.{signLines}
+use Rattle.proofing.specs.Steps.{StepsPrints, prints-signs, prints-refusal}
 use Rattle.proofing.specs.Claims.{EveryLineStepped, OneSteppedLine, printParts, StepsJoinToText, RoomEnough, WholeLinePrinted, OneOutcome, WorkedSteps}
 use Rattle.replies.proofs.Lengths.{no-line-short}
 use Rattle.proofing.proofs.Room.{signs-room}

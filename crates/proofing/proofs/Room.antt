@@ -16,7 +16,7 @@ use Rattle.reader.proofs.Visiting.{Coded, coded-text}
 use Rattle.printing.specs.Printed.{decimalOf, bytesOfText}
 use Rattle.printing.proofs.Lengths.{decimal-few, text-few}
 use Rattle.replies.specs.Replies.{lineEnd, blank}
-use Rattle.proofing.specs.Steps.{colon, signLine, signLines}
+use Rattle.sign_lines.specs.Signs.{colon, signLine, signLines}
 use Rattle.proofing.specs.Claims.{roomForSteps}
 
 -- THE SIGNS

@@ -11,7 +11,7 @@ use Rattle.patterns.proofs.row_of.Reads as row-of-reads
 use Rattle.printing.proofs.put.Reads as put-reads
 use Rattle.printing.proofs.put_all.Reads as put-all-reads
 use Rattle.replies.proofs.put_refusal.Reads as put-refusal-reads
-use Rattle.proofing.proofs.put_signs.Reads as put-signs-reads
+use Rattle.sign_lines.proofs.put_signs.Reads as put-signs-reads
 
 row-of-requires : tie.Need-row-of-requires
 row-of-requires c κs = search needs

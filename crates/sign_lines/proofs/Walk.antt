@@ -28,8 +28,8 @@ use Rattle.desk.specs.Shows.{pointsOf, signOf, ShowsSign}
 use Rattle.desk.proofs.Demands.{one-sign}
 use Rattle.printing.specs.Printed.{Prints}
 use Rattle.printing.proofs.Printed.{prints-as, Mid, mid-start, mid-on, mid-done}
-use Rattle.proofing.specs.Steps.{signLine, signLines}
-use Rattle.proofing.specs.Walk.{shownText, Accepted, SignsPrinted}
+use Rattle.sign_lines.specs.Signs.{signLine, signLines}
+use Rattle.sign_lines.specs.Walk.{shownText, Accepted, SignsPrinted}
 
 -- THE PRINT OF A STEP
 module _ (lead point next : ℕ) where

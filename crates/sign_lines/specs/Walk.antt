@@ -1,5 +1,5 @@
--- What the functions inside promise one another: the print of a step, from its numbers; the signs of an accepted row, printed. The public promise (`Steps`) needs none of
--- this. Assumes nothing.
+-- What the functions inside promise one another: the print of a step, from its numbers; the signs of an accepted row, printed. `put_signs` has the last for its
+-- promise. Assumes nothing.
 use mathlib.Core.Bool.{cond}
 use mathlib.Core.List.{List, [], _∷_}
 use Prim.Native.Nat.{ℕ}
@@ -10,7 +10,7 @@ use Rattle.rules.specs.Rows.{signsOf}
 use Rattle.rules.specs.Answers.{ReadsAs}
 use Rattle.desk.specs.declared.Sign as desk
 use Rattle.printing.specs.Printed.{Prints}
-use Rattle.proofing.specs.Steps.{signLines}
+use Rattle.sign_lines.specs.Signs.{signLines}
 
 -- "so a step gives one or two code points": which they are
 abbrev pub shownText : desk.Sign → Text

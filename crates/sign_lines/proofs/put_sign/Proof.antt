@@ -1,11 +1,11 @@
 -- `put_sign`: four or five parts, each behind the one before. Assumes nothing.
 use native.Mathlib.Omega.{arith}
-use Rattle.proofing.proofs.Steps.{sign-one, sign-two}
+use Rattle.sign_lines.proofs.Signs.{sign-one, sign-two}
 use borrow.Author.Needs.{needs}
-use Rattle.proofing.proofs.put_sign.Statement.{statement}
-use Rattle.proofing.proofs.put_sign.Tie as tie
-use Rattle.proofing.proofs.put_sign.Reads as reads
-use Rattle.proofing.proofs.put_sign.Lts as lts
+use Rattle.sign_lines.proofs.put_sign.Statement.{statement}
+use Rattle.sign_lines.proofs.put_sign.Tie as tie
+use Rattle.sign_lines.proofs.put_sign.Reads as reads
+use Rattle.sign_lines.proofs.put_sign.Lts as lts
 use Rattle.printing.proofs.put.Reads as put-reads
 use Rattle.printing.proofs.put_number.Reads as put-number-reads
 use Rattle.printing.proofs.put_point.Reads as put-point-reads

@@ -3,13 +3,13 @@ use Prim.Native.Nat.{_-_, _<_, _≤_}
 use native.Mathlib.Omega.{arith}
 use lib.ListN.{length}
 use borrow.Author.Needs.{needs}
-use Rattle.proofing.proofs.Walk.{Walk, walk-start, walk-on, walk-done}
-use Rattle.proofing.proofs.put_signs.Statement.{statement}
-use Rattle.proofing.proofs.put_signs.Tie as tie
-use Rattle.proofing.proofs.put_signs.Reads as reads
-use Rattle.proofing.proofs.put_signs.Lts as lts
+use Rattle.sign_lines.proofs.Walk.{Walk, walk-start, walk-on, walk-done}
+use Rattle.sign_lines.proofs.put_signs.Statement.{statement}
+use Rattle.sign_lines.proofs.put_signs.Tie as tie
+use Rattle.sign_lines.proofs.put_signs.Reads as reads
+use Rattle.sign_lines.proofs.put_signs.Lts as lts
 use Rattle.desk.proofs.desk_step.Reads as desk-step-reads
-use Rattle.proofing.proofs.put_sign.Reads as put-sign-reads
+use Rattle.sign_lines.proofs.put_sign.Reads as put-sign-reads
 
 abbrev Inv-loop : tie.InvT-loop
 Inv-loop out₀ at row end₀ place₀ out end place = Walk row out₀ at out place end
