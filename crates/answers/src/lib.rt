@@ -1,19 +1,11 @@
 // What the line programs `transcribe` and `read` print for a line (paper 01, "The line program"): from the line's bytes to the bytes of the printed line, its end among them, in
 // a slice that the caller lends. (What `steps` prints: `proofing`.)
 use patterns::row_of;
-use printing::BLANK;
-use printing::LINE_END;
-use printing::put;
-use printing::put_all;
-use printing::put_cells;
-use printing::put_refusal;
-use printing::put_text;
+use printouts::print_row;
+use printouts::print_text;
 ghost use Prim.Native.Nat.{_≤_};
 ghost use lib.ListN.{length};
 ghost use Rattle.answers.specs.Lines.{TranscribesLine, ReadsLine};
-
-// The number that no refusal has.
-const DONE: usize = 0;
 
 // What `transcribe` prints for a line: "`ok`, a blank and one character U+2800 plus the cell for each cell; or `no`, .."
 // Two wrong programs that the promise shuts out: one that prints the whole of the lent row, and one that prints a refusal as a row.
@@ -24,14 +16,7 @@ pub fn transcribe_line(line: &[u8], points: &mut [u32], row: &mut [u8], out: &mu
 {
     let count = utf8::decode(line, points);
     let shown = desk::desk_transcribe(&points[..count], row);
-    if shown.number != DONE {
-        return put_refusal(out, shown.number, shown.second);
-    }
-    let cells = shown.second;
-    let mut at = put_all(out, 0, b"ok");
-    at = put(out, at, BLANK);
-    at = put_cells(out, at, &row[..cells]);
-    put(out, at, LINE_END)
+    print_row(out, shown.number, shown.second, row)
 }
 
 // What `read` prints for a line: "`ok`, a blank and the text in UTF-8, or `no N M`".
@@ -50,12 +35,5 @@ pub fn read_line(
 {
     let cells = row_of(line, points, row);
     let told = desk::desk_read(&row[..cells], text);
-    if told.number != DONE {
-        return put_refusal(out, told.number, told.second);
-    }
-    let count = told.second;
-    let mut at = put_all(out, 0, b"ok");
-    at = put(out, at, BLANK);
-    at = put_text(out, at, &text[..count]);
-    put(out, at, LINE_END)
+    print_text(out, told.number, told.second, text)
 }

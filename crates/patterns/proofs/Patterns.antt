@@ -9,8 +9,9 @@ use lib.Seq.{drop-cons, take-all, sets}
 use borrow.Author.Tests.{le-leb, lt-leb}
 use Rattle.rows.specs.Laid.{laid}
 use Rattle.rows.proofs.Laid.{length-laid, front}
+use Rattle.rows.proofs.Stored.{stored-is}
 use Rattle.utf8.specs.Decoding.{decoded, Decoded}
-use Rattle.utf8.proofs.Decoding.{stored-is, all-laid, all-points}
+use Rattle.utf8.proofs.Decoding.{all-laid, all-points}
 use Rattle.patterns.specs.Patterns.{byteOf, rowOf, ShowsRow}
 
 -- THE BYTE OF A CHARACTER

@@ -1,7 +1,5 @@
--- The claims of specs/Claims.antt, by the laws of `Printed`; the worked forms are computed. Assumes nothing.
-use mathlib.Core.Path.{refl}
-use Rattle.utf8.specs.Encoding.{encodedOf}
-use Rattle.printing.specs.Claims.{OnePrinted, PrintedInFront, PrintedOn, WorkedForms}
+-- The claims of specs/Claims.antt, by the laws of `Printed`. Assumes nothing.
+use Rattle.printing.specs.Claims.{OnePrinted, PrintedInFront, PrintedOn}
 use Rattle.printing.proofs.Printed as printed
 
 pub one-printed : OnePrinted
@@ -12,7 +10,3 @@ printed-in-front l x r new room p = (printed.prints-front l x r new p room, prin
 
 pub printed-on : PrintedOn
 printed-on = printed.prints-on
-
-pub worked-forms : WorkedForms
-unfolding encodedOf
-worked-forms = (refl, refl, refl, refl, refl, refl, refl)

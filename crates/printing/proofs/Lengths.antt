@@ -1,4 +1,4 @@
--- How long what is printed is. In order: a number has at most 20 digits; a refusal's line; `ok` and its line; a code point has at most four bytes; a text. Assumes nothing.
+-- How long what is printed is. In order: a number has at most 20 digits; a code point has at most four bytes; a text. Assumes nothing.
 use mathlib.Core.Bool.{Bool, true, false, cond}
 use mathlib.Core.List.{List, [], _∷_, _++_}
 use mathlib.Core.Path.{_≡_}
@@ -6,11 +6,9 @@ use Prim.Native.Nat.{ℕ, zero, suc, _+_, _*_, _/_, _%_, _≤_}
 use native.Mathlib.Omega.{arith}
 use lib.Dec.{ltb}
 use lib.ListN.{length, length-append}
-use Rattle.rules.specs.Cells.{Text, print}
-use Rattle.rules.specs.Refusals.{Refusal, numberOf, secondOf}
-use Rattle.utf8.specs.Decoding.{replacement}
-use Rattle.utf8.specs.Encoding.{isScalar, bytesOf, encodedOf}
-use Rattle.printing.specs.Printed.{digitsOf, decimalOf, bytesOfText, lineEnd, blank, okLine, noLine}
+use Rattle.rules.specs.Cells.{Text}
+use Rattle.encoding.specs.Encoding.{isScalar, bytesOf, replacement, encodedOf}
+use Rattle.printing.specs.Printed.{digitsOf, decimalOf, bytesOfText}
 
 -- DIGITS
 digits-few : (fuel n : ℕ) → length (digitsOf fuel n) ≤ fuel
@@ -24,25 +22,6 @@ digits-few (suc fuel) n = go (ltb n 10) (digits-few fuel (n / 10))
 
 pub decimal-few : (n : ℕ) → length (decimalOf n) ≤ 20
 decimal-few n = digits-few 20 n
-
--- `no`, two blanks, two numbers and the end
-pub no-line-short : (x : Refusal) → length (noLine x) ≤ 45
-no-line-short x =
-    let n : List ℕ = decimalOf (numberOf x) in
-    let m : List ℕ = decimalOf (secondOf x) in
-    let a : length (print "no" ++ blank ∷ n ++ blank ∷ m ++ lineEnd ∷ []) ≡ length (print "no" ++ blank ∷ n ++ blank ∷ m) + 1 =
-    length-append (print "no" ++ blank ∷ n ++ blank ∷ m) (lineEnd ∷ []) in
-    let b : length (print "no" ++ blank ∷ n ++ blank ∷ m) ≡ length (print "no" ++ blank ∷ n) + suc (length m) =
-    length-append (print "no" ++ blank ∷ n) (blank ∷ m) in
-    let c : length (print "no" ++ blank ∷ n) ≡ 2 + suc (length n) = length-append (print "no") (blank ∷ n) in
-    omega (arith, a, b, c, decimal-few (numberOf x), decimal-few (secondOf x))
-
-pub ok-line-length : (bytes : List ℕ) → length (okLine bytes) ≡ 3 + length bytes + 1
-ok-line-length bytes =
-    let a : length (print "ok" ++ blank ∷ bytes ++ lineEnd ∷ []) ≡ length (print "ok" ++ blank ∷ bytes) + 1 =
-    length-append (print "ok" ++ blank ∷ bytes) (lineEnd ∷ []) in
-    let b : length (print "ok" ++ blank ∷ bytes) ≡ 2 + suc (length bytes) = length-append (print "ok") (blank ∷ bytes) in
-    omega (arith, a, b)
 
 -- A CODE POINT has at most four bytes
 bytes-few : (c : ℕ) → length (bytesOf c) ≤ 4

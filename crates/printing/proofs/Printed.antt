@@ -1,6 +1,6 @@
 -- Bytes printed at a place, one behind another. In order: nothing; one part behind another (`prints-on`);
 -- the same from the front of what is lent; two allowed results; one byte; between two parts of a loop (`Mid`): whatever prints what is still to come from here
--- prints the whole; the parts of a line. Assumes nothing.
+-- prints the whole. Assumes nothing.
 use mathlib.Core.List.{List, [], _∷_, _++_}
 use mathlib.Core.Logic.{⊎-elim}
 use mathlib.Core.Path.{_≡_, refl, sym, ap, subst, _∙_}
@@ -11,11 +11,10 @@ use lib.ListN.{length, getD, take, drop, set, length-append, length-set, drop-of
 use lib.Seq.{sets, length-sets, sets-eq, set-out, drop-cons, take-all}
 use Rattle.rows.specs.Laid.{laid}
 use Rattle.rows.proofs.Laid.{front}
-use Rattle.rules.specs.Cells.{print}
+use Rattle.rows.proofs.Stored.{stored-past}
 use Rattle.rules.proofs.Finite.{le-or-lt}
-use Rattle.utf8.specs.Encoding.{encodedOf, Encoded}
-use Rattle.utf8.proofs.Decoding.{stored-past}
-use Rattle.printing.specs.Printed.{decimalOf, bytesOfText, charactersOf, lineEnd, blank, refusalLine, longLine, Prints}
+use Rattle.encoding.specs.Encoding.{encodedOf, Encoded}
+use Rattle.printing.specs.Printed.{bytesOfText, charactersOf, Prints}
 
 -- NOTHING
 pub prints-none : (l : List ℕ) (at : ℕ) → Prints l at [] at l
@@ -133,21 +132,3 @@ point-bytes c lent r new room e few =
 
 pub point-count : (c : ℕ) (lent : List ℕ) (r : ℕ) (new : List ℕ) → 4 ≤ length lent → Encoded c lent r new → r ≤ 4 → r ≡ length (take r new)
 point-count c lent r new room e few = e .count ∙ sym (ap length (point-bytes c lent r new room e few))
-
--- THE PARTS OF A LINE
-pub line-refusal : (number second : ℕ) (l l₁ l₂ l₃ l₄ l₅ l₆ : List ℕ) (a b c d e r : ℕ)
-    → Prints l 0 (print "no") a l₁ → Prints l₁ a (blank ∷ []) b l₂ → Prints l₂ b (decimalOf number) c l₃
-    → Prints l₃ c (blank ∷ []) d l₄ → Prints l₄ d (decimalOf second) e l₅ → Prints l₅ e (lineEnd ∷ []) r l₆
-    → Prints l 0 (refusalLine number second) r l₆
-line-refusal number second l l₁ l₂ l₃ l₄ l₅ l₆ a b c d e r p q s t u v =
-    let one : List ℕ = blank ∷ decimalOf number in
-    let two : List ℕ = blank ∷ decimalOf second in
-    let end : List ℕ = lineEnd ∷ [] in
-    let first : Prints l₁ a one c l₃ = prints-on l₁ a (blank ∷ []) b l₂ (decimalOf number) c l₃ q s in
-    let next : Prints l₃ c two e l₅ = prints-on l₃ c (blank ∷ []) d l₄ (decimalOf second) e l₅ t u in
-    let three : Prints l 0 (print "no" ++ one) c l₃ = prints-on l 0 (print "no") a l₁ one c l₃ p first in
-    let five : Prints l 0 (print "no" ++ one ++ two) e l₅ = prints-on l 0 (print "no" ++ one) c l₃ two e l₅ three next in
-    prints-on l 0 (print "no" ++ one ++ two) e l₅ end r l₆ five v
-
-pub line-long : (l l₁ l₂ : List ℕ) (a r : ℕ) → Prints l 0 (print "long") a l₁ → Prints l₁ a (lineEnd ∷ []) r l₂ → Prints l 0 longLine r l₂
-line-long l l₁ l₂ a r p q = prints-on l 0 (print "long") a l₁ (lineEnd ∷ []) r l₂ p q

@@ -1,12 +1,11 @@
 -- What is proved of printing, as types; each is proved under the same name with hyphens in proofs/Claims.antt. In order: one outcome; what is printed from the front of
--- what was lent; part behind part; worked forms. Assumes nothing.
-use mathlib.Core.List.{List, [], _∷_, _++_}
+-- what was lent; part behind part. Assumes nothing.
+use mathlib.Core.List.{List, _++_}
 use mathlib.Core.Path.{_≡_}
 use Prim.Native.Nat.{ℕ, _≤_}
 use lib.ListN.{length, take}
 use Rattle.rows.specs.Laid.{laid}
-use Rattle.rules.specs.Cells.{print}
-use Rattle.printing.specs.Printed.{decimalOf, bytesOfText, charactersOf, lineEnd, okLine, refusalLine, longLine, Prints}
+use Rattle.printing.specs.Printed.{Prints}
 
 -- "any two results allowed by one statement are proved equal"
 abbrev pub OnePrinted : Type 0
@@ -22,15 +21,3 @@ PrintedInFront =
 abbrev pub PrintedOn : Type 0
 PrintedOn =
     (l : List ℕ) (at : ℕ) (x : List ℕ) (m : ℕ) (mid y : List ℕ) (r : ℕ) (new : List ℕ) → Prints l at x m mid → Prints mid m y r new → Prints l at (x ++ y) r new
-
--- "no 2 0"; the least and the greatest number; "ok" with a row of three cells, in characters U+283C, U+2813, U+2803; "ok" with text; "long"
-abbrev pub WorkedForms : Type 0
-WorkedForms =
-    (refusalLine 2 0 ≡ print "no 2 0" ++ lineEnd ∷ [])
-    × (refusalLine 6 12288 ≡ print "no 6 12288" ++ lineEnd ∷ [])
-    × (decimalOf 0 ≡ print "0")
-    × (decimalOf 18446744073709551615 ≡ print "18446744073709551615")
-    × (okLine (charactersOf (0x3c ∷ 0x13 ∷ 0x03 ∷ []))
-    ≡ print "ok " ++ 0xe2 ∷ 0xa0 ∷ 0xbc ∷ 0xe2 ∷ 0xa0 ∷ 0x93 ∷ 0xe2 ∷ 0xa0 ∷ 0x83 ∷ lineEnd ∷ [])
-    × (okLine (bytesOfText (print "8 ñ")) ≡ print "ok 8 " ++ 0xc3 ∷ 0xb1 ∷ lineEnd ∷ [])
-    × (longLine ≡ print "long" ++ lineEnd ∷ [])

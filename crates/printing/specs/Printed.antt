@@ -1,5 +1,5 @@
--- Bytes that are printed at a place of a lent slice. In order: numbers in decimal; text in UTF-8; the forms of a printed line (paper 01, "The line program"); what each function
--- promises. Not here: what a line program prints (crates `answers`, `proofing`). Assumes nothing.
+-- Bytes that are printed at a place of a lent slice. In order: numbers in decimal; text in UTF-8; cells in characters; what each function promises. Not here: the forms of a
+-- printed line (crate `replies`). Assumes nothing.
 use mathlib.Core.Bool.{cond}
 use mathlib.Core.List.{List, [], _∷_, _++_}
 use mathlib.Core.Path.{_≡_}
@@ -7,9 +7,8 @@ use Prim.Native.Nat.{ℕ, zero, suc, _+_, _/_, _%_, min, max}
 use lib.Dec.{ltb}
 use lib.ListN.{length}
 use lib.Seq.{sets}
-use Rattle.rules.specs.Cells.{Text, Row, print}
-use Rattle.rules.specs.Refusals.{Refusal, numberOf, secondOf}
-use Rattle.utf8.specs.Encoding.{encodedOf}
+use Rattle.rules.specs.Cells.{Text, Row}
+use Rattle.encoding.specs.Encoding.{encodedOf}
 
 -- A NUMBER IN DECIMAL, with no nought in front: of at most `fuel` digits; a number of the machine, below 2 ^ 64, has at most 20
 abbrev pub digitsOf : ℕ → ℕ → List ℕ
@@ -28,28 +27,6 @@ bytesOfText (c ∷ t) = encodedOf c ++ bytesOfText t
 abbrev pub charactersOf : Row → List ℕ
 charactersOf [] = []
 charactersOf (c ∷ r) = encodedOf (0x2800 + c) ++ charactersOf r
-
--- THE FORMS OF A PRINTED LINE. "Byte 10 ends a line"; "with single blanks"
-abbrev pub lineEnd : ℕ
-lineEnd = 10
-
-abbrev pub blank : ℕ
-blank = 32
-
--- "it prints `ok`, a blank and .."
-abbrev pub okLine : List ℕ → List ℕ
-okLine bytes = print "ok" ++ blank ∷ bytes ++ lineEnd ∷ []
-
--- "or `no`, the refusal number and the second number, with single blanks"
-abbrev pub refusalLine : ℕ → ℕ → List ℕ
-refusalLine number second = print "no" ++ blank ∷ decimalOf number ++ blank ∷ decimalOf second ++ lineEnd ∷ []
-
-abbrev pub noLine : Refusal → List ℕ
-noLine x = refusalLine (numberOf x) (secondOf x)
-
--- "prints `long`"
-abbrev pub longLine : List ℕ
-longLine = print "long" ++ lineEnd ∷ []
 
 -- WHAT PRINTING PROMISES, of bytes x at a place of what was lent: they are stored from that place on, one behind another, as far as there is room (`sets`: a store behind the end changes nothing), and nothing
 -- else is changed; the answer is the place behind them, or the end where there is no room for all.

@@ -3,15 +3,11 @@
 ghost use mathlib.Core.List.{[], _∷_};
 ghost use mathlib.Core.Path.{_≡_};
 ghost use Prim.Native.Nat.{_+_};
-ghost use Rattle.utf8.specs.Encoding.{encodedOf};
-ghost use Rattle.printing.specs.Printed.{decimalOf, bytesOfText, charactersOf, refusalLine, longLine, Prints};
+ghost use Rattle.encoding.specs.Encoding.{encodedOf};
+ghost use Rattle.printing.specs.Printed.{decimalOf, bytesOfText, charactersOf, Prints};
 
 // "one character U+2800 plus the cell for each cell"
 const FIRST_PATTERN: u32 = 0x2800;
-
-pub const LINE_END: u8 = b'\n';
-
-pub const BLANK: u8 = b' ';
 
 // Prints a byte at a place of what is lent, and answers the place behind it. Where there is no room nothing is printed.
 pub fn put(out: &mut [u8], at: usize, byte: u8) -> usize
@@ -41,7 +37,7 @@ pub fn put_point(out: &mut [u8], at: usize, point: u32) -> usize
     ensures { λ r. ⌜ Prints (now (out .entry)) at (encodedOf point) r (now (out .exit)) ⌝ }
 {
     let mut bytes = [0u8; 4];
-    let n = utf8::encode(point, &mut bytes);
+    let n = encoding::encode(point, &mut bytes);
     put_all(out, at, &bytes[..n])
 }
 
@@ -83,24 +79,4 @@ pub fn put_text(out: &mut [u8], at: usize, text: &[u32]) -> usize
         i += 1;
     }
     place
-}
-
-// "or `no`, the refusal number and the second number, with single blanks"
-pub fn put_refusal(out: &mut [u8], number: usize, second: usize) -> usize
-    ensures { λ r. ⌜ Prints (now (out .entry)) 0 (refusalLine number second) r (now (out .exit)) ⌝ }
-{
-    let mut at = put_all(out, 0, b"no");
-    at = put(out, at, BLANK);
-    at = put_number(out, at, number);
-    at = put(out, at, BLANK);
-    at = put_number(out, at, second);
-    put(out, at, LINE_END)
-}
-
-// "prints `long`"
-pub fn long_line(out: &mut [u8]) -> usize
-    ensures { λ r. ⌜ Prints (now (out .entry)) 0 (longLine) r (now (out .exit)) ⌝ }
-{
-    let at = put_all(out, 0, b"long");
-    put(out, at, LINE_END)
 }

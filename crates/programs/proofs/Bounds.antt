@@ -3,7 +3,7 @@ use mathlib.Core.List.{List}
 use Prim.Native.Nat.{ℕ, _≤_}
 use native.Mathlib.Omega.{arith}
 use lib.ListN.{length}
-use Rattle.answers.proofs.Claims as answers
+use Rattle.printouts.proofs.Claims as printouts
 use Rattle.proofing.proofs.Claims as proofing
 use Rattle.programs.specs.declared.Program.{Program}
 use Rattle.programs.specs.declared.Program.the-variants.{Transcribe, Read, Steps}
@@ -16,8 +16,8 @@ longest-line Read = omega arith
 longest-line Steps = omega arith
 
 answer-room : (p : Program) (line x : List ℕ) → Answered p line x → length x ≤ mostBytes
-answer-room Transcribe line x a = omega (arith, answers.room-enough .0 line x a)
-answer-room Read line x a = omega (arith, answers.room-enough .1 line x a)
+answer-room Transcribe line x a = omega (arith, printouts.room-enough .0 line x a)
+answer-room Read line x a = omega (arith, printouts.room-enough .1 line x a)
 answer-room Steps line x a = proofing.room-enough line x a .1
 
 pub most-bytes : MostBytes

@@ -1,4 +1,4 @@
--- The claims of specs/Claims.antt: line by line, by the claims of `answers` and `proofing`. Assumes nothing.
+-- The claims of specs/Claims.antt: line by line, by the claims of `printouts` and `proofing`. Assumes nothing.
 use mathlib.Core.List.{List, [], _∷_, _++_}
 use mathlib.Core.Logic.{⊎-elim}
 use mathlib.Core.Path.{_≡_, refl, sym, ap, subst, _∙_}
@@ -16,12 +16,13 @@ use Rattle.rules.proofs.Demands.{worked}
 use Rattle.rules.proofs.Finite.{le-or-lt}
 use Rattle.lines.specs.Lines.{linesOf}
 use Rattle.utf8.specs.Decoding.{decoded}
-use Rattle.utf8.specs.Encoding.{encodedOf}
-use Rattle.printing.specs.Printed.{okLine, noLine, refusalLine, longLine, charactersOf, bytesOfText, lineEnd}
-use Rattle.answers.specs.Lines.{prints-cells, prints-refusal}
-use Rattle.answers.proofs.Claims as answers
-use Rattle.answers.proofs.Lengths.{characters-three, given-bytes}
-use Rattle.answers.proofs.Lines.{room-for-row}
+use Rattle.encoding.specs.Encoding.{encodedOf}
+use Rattle.printing.specs.Printed.{charactersOf, bytesOfText}
+use Rattle.replies.specs.Replies.{okLine, noLine, refusalLine, longLine, lineEnd}
+use Rattle.printouts.specs.Lines.{prints-cells, prints-refusal}
+use Rattle.printouts.proofs.Claims as printouts
+use Rattle.printouts.proofs.Lengths.{characters-three, given-bytes}
+use Rattle.printouts.proofs.Lines.{room-for-row}
 use Rattle.proofing.proofs.Claims as proofing
 use Rattle.programs.specs.declared.Program.{Program}
 use Rattle.programs.specs.declared.Program.the-variants.{Transcribe, Read, Steps}
@@ -31,8 +32,8 @@ use Rattle.programs.proofs.Bounds as bounds
 
 -- every line has an answer, and one only
 answer-there : (p : Program) (line : List ℕ) → (x : List ℕ) × Answered p line x
-answer-there Transcribe line = answers.every-line-transcribed roomForCells line
-answer-there Read line = answers.every-row-line-read roomForText line
+answer-there Transcribe line = printouts.every-line-transcribed roomForCells line
+answer-there Read line = printouts.every-row-line-read roomForText line
 answer-there Steps line = proofing.every-line-stepped line
 
 every-line : (p : Program) (line : List ℕ) → (x : List ℕ) × AnswerTo p line x
@@ -40,8 +41,8 @@ every-line p line =
     ⊎-elim (λ h. let a = answer-there p line in (a .0, answered (a .0) h (a .1))) (λ h. (longLine, too-long h)) (le-or-lt (length line) (longestLine p))
 
 answer-same : (p : Program) (line x y : List ℕ) → Answered p line x → Answered p line y → x ≡ y
-answer-same Transcribe line x y a b = answers.one-transcribed-line roomForCells line x y a b
-answer-same Read line x y a b = answers.one-read-line roomForText line x y a b
+answer-same Transcribe line x y a b = printouts.one-transcribed-line roomForCells line x y a b
+answer-same Read line x y a b = printouts.one-read-line roomForText line x y a b
 answer-same Steps line x y a b = proofing.one-stepped-line line x y a b
 
 one-line : (p : Program) (line x y : List ℕ) → AnswerTo p line x → AnswerTo p line y → x ≡ y
@@ -80,7 +81,7 @@ read-undoes-transcribe line r g =
     let few : length (charactersOf r) ≤ longestRowLine =
     omega (arith, characters-three r (given-bytes (decoded line) roomForCells r g), room-for-row (decoded line) roomForCells r g) in
     answered (okLine (bytesOfText (normalOf (decoded line)))) few
-    (answers.line-there-and-back roomForCells line r g roomForText (print-short (decoded line) roomForCells r g))
+    (printouts.line-there-and-back roomForCells line r g roomForText (print-short (decoded line) roomForCells r g))
 
 -- THE PAPER'S EXAMPLE: two of the sixteen lines
 shown-row : (a : Answer) (r : Row) → shownAs a ≡ row r → a ≡ gives r

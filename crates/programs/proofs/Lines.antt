@@ -10,8 +10,9 @@ use borrow.Author.Tests.{ltb-true, ltb-false}
 use Rattle.rows.specs.Laid.{laid}
 use Rattle.lines.specs.Held.{Holds, isLong}
 use Rattle.lines.proofs.Claims.{long-exactly, held-is-the-line}
-use Rattle.printing.specs.Printed.{longLine, Prints}
+use Rattle.printing.specs.Printed.{Prints}
 use Rattle.printing.proofs.Printed.{prints-laid}
+use Rattle.replies.specs.Replies.{longLine}
 use Rattle.programs.specs.declared.Program.{Program}
 use Rattle.programs.specs.Answers.{longestLine, mostBytes, Answered, AnswerTo, too-long, answered, AnswersLine}
 

@@ -1,5 +1,5 @@
 -- The line programs as a whole (paper 01, "The line program"; its companions `read` and `steps`). In order: how long a line may be; the answer to a line; the output for an
--- input; the promise. Not here: what the lines of an input are (crate `lines`), what is printed for one that is not long (crates `answers`, `proofing`). Assumes nothing.
+-- input; the promise. Not here: what the lines of an input are (crate `lines`), what is printed for one that is not long (crates `printouts`, `proofing`). Assumes nothing.
 use mathlib.Core.List.{List, [], _∷_, _++_}
 use mathlib.Core.Path.{_≡_}
 use Prim.Native.Nat.{ℕ, _≤_, _<_}
@@ -7,8 +7,8 @@ use lib.ListN.{length}
 use Rattle.lines.specs.Lines.{linesOf}
 use Rattle.lines.specs.Held.{Holds}
 use Rattle.rows.specs.Laid.{laid}
-use Rattle.printing.specs.Printed.{longLine}
-use Rattle.answers.specs.Lines.{TranscribePrints, ReadPrints}
+use Rattle.replies.specs.Replies.{longLine}
+use Rattle.printouts.specs.Lines.{TranscribePrints, ReadPrints}
 use Rattle.proofing.specs.Steps.{StepsPrints}
 use Rattle.programs.specs.declared.Program.{Program}
 use Rattle.programs.specs.declared.Program.the-variants.{Transcribe, Read, Steps}

@@ -9,7 +9,8 @@ use Rattle.rules.specs.Normal.{normalOf}
 use Rattle.rules.specs.Castilian.{castilian}
 use Rattle.rules.specs.Answers.{gives, PrintAnswer}
 use Rattle.utf8.specs.Decoding.{decoded}
-use Rattle.printing.specs.Printed.{okLine, charactersOf, bytesOfText, lineEnd}
+use Rattle.printing.specs.Printed.{charactersOf, bytesOfText}
+use Rattle.replies.specs.Replies.{okLine, lineEnd}
 use Rattle.programs.specs.declared.Program.{Program}
 use Rattle.programs.specs.declared.Program.the-variants.{Transcribe, Read}
 use Rattle.programs.specs.Answers.{roomForCells, mostBytes, AnswerTo, Output}

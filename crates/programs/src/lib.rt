@@ -59,7 +59,7 @@ pub fn answer_line(
     ensures { λ r. ⌜ r ≤ length (now (out .exit)) ⌝ }
 {
     if lines::is_long(line, held) {
-        return printing::long_line(out);
+        return replies::long_line(out);
     }
     match program {
         Program::Transcribe => answers::transcribe_line(

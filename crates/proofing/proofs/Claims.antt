@@ -16,14 +16,16 @@ use Rattle.rules.specs.Screen as screen
 use Rattle.rules.specs.Screen.{StepAnswer, shows, stays, Stepped, stepped, stayed}
 use Rattle.rules.proofs.Demands.{every-step-answered, one-step-answer, one-text, signs-join}
 use Rattle.reader.proofs.Claims.{returns-the-text}
-use Rattle.utf8.specs.Encoding.{encodedOf}
-use Rattle.printing.specs.Printed.{bytesOfText, lineEnd, noLine}
+use Rattle.encoding.specs.Encoding.{encodedOf}
+use Rattle.printing.specs.Printed.{bytesOfText}
+use Rattle.replies.specs.Replies.{lineEnd, noLine}
 use Rattle.printing.proofs.Printed.{prints-as}
 use Rattle.printing.proofs.Claims.{one-printed, printed-in-front}
 use Rattle.patterns.specs.Patterns.{rowOf}
-use Rattle.proofing.specs.Steps.{signLines, StepsPrints, prints-signs, prints-refusal}
+use Rattle.sign_lines.specs.Signs.{signLines}
+use Rattle.proofing.specs.Steps.{StepsPrints, prints-signs, prints-refusal}
 use Rattle.proofing.specs.Claims.{EveryLineStepped, OneSteppedLine, printParts, StepsJoinToText, RoomEnough, WholeLinePrinted, OneOutcome, WorkedSteps}
-use Rattle.printing.proofs.Lengths.{no-line-short}
+use Rattle.replies.proofs.Lengths.{no-line-short}
 use Rattle.proofing.proofs.Room.{signs-room}
 
 -- what is printed follows from the answer to a step

@@ -1,4 +1,3 @@
-pub mod Walk
 pub mod Steps
 pub mod Room
 pub mod Claims

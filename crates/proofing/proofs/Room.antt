@@ -13,9 +13,10 @@ use Rattle.rules.proofs.Castilian.{sane}
 use Rattle.rules.proofs.Demands.{signs-join, cell-for-each-sign}
 use Rattle.readings.proofs.Print.{points-width}
 use Rattle.stepper.proofs.Visiting.{Coded, coded-text}
-use Rattle.printing.specs.Printed.{decimalOf, bytesOfText, lineEnd, blank}
+use Rattle.printing.specs.Printed.{decimalOf, bytesOfText}
 use Rattle.printing.proofs.Lengths.{decimal-few, text-few}
-use Rattle.proofing.specs.Steps.{colon, signLine, signLines}
+use Rattle.replies.specs.Replies.{lineEnd, blank}
+use Rattle.sign_lines.specs.Signs.{colon, signLine, signLines}
 use Rattle.proofing.specs.Claims.{roomForSteps}
 
 -- THE SIGNS

@@ -1,13 +1,13 @@
--- The laws that the functions cite. In order: a sign printed, part behind part; what the first step tells of the row, that it is accepted or why it is refused; the ends of
--- `steps_line`. Not here: the walk over the signs (`Walk`). Assumes nothing.
+-- The laws that the functions cite. In order: what the first step tells of the row, that it is accepted or why it is refused; the ends of
+-- `steps_line`. Not here: the walk over the signs (crate `sign_lines`). Assumes nothing.
 use mathlib.Core.Path.{_≡_, refl, sym, ap, _∙_, subst}
-use mathlib.Core.List.{List, [], _∷_, _++_, append-assoc, append-nil}
+use mathlib.Core.List.{List, [], _∷_, _++_}
 use mathlib.Core.Logic.{_⊎_, inl, inr}
 use mathlib.Core.Option.{some}
-use Prim.Native.Nat.{ℕ, _≤_, _<_}
+use Prim.Native.Nat.{ℕ, _≤_}
 use native.Mathlib.Omega.{arith}
 use lib.ListN.{length, take}
-use borrow.Author.Tests.{eq-eqb, ne-eqb, lt-ltb, le-ltb}
+use borrow.Author.Tests.{eq-eqb, ne-eqb}
 use Rattle.rules.specs.Cells.{Row, print}
 use Rattle.rules.specs.Castilian.{castilian}
 use Rattle.rules.specs.Rows.{signsOf}
@@ -23,41 +23,14 @@ use Rattle.stepper.specs.Promise.{Shows, sign-there, no-sign-there, row-refused
 use Rattle.readings.proofs.Print.{known}
 use Rattle.desk.specs.declared.Sign as desk
 use Rattle.desk.specs.Shows.{readOf, pointsOf, signOf, ShowsSign}
-use Rattle.utf8.specs.Encoding.{encodedOf}
-use Rattle.printing.specs.Printed.{decimalOf, lineEnd, blank, refusalLine, Prints}
+use Rattle.printing.specs.Printed.{Prints}
 use Rattle.printing.proofs.Printed.{prints-as, prints-on, prints-within}
+use Rattle.replies.specs.Replies.{lineEnd, refusalLine}
 use Rattle.patterns.specs.Patterns.{rowOf, ShowsRow}
 use Rattle.patterns.proofs.Patterns.{row-is}
-use Rattle.proofing.specs.Steps.{colon, signLine, signLines, StepsPrints, prints-signs, prints-refusal, StepsLine}
-use Rattle.proofing.specs.Walk.{shownText, Accepted, SignsPrinted}
-
--- A SIGN, PRINTED. The parts are joined from the left, the line is written to the right.
-one-point : (x e : List ℕ) → (x ++ colon ∷ []) ++ e ≡ x ++ colon ∷ (e ++ [])
-one-point x e = append-assoc x (colon ∷ []) e ∙ ap (λ (y : List ℕ). x ++ colon ∷ y) (sym (append-nil e))
-
-two-points : (x e f : List ℕ) → ((x ++ colon ∷ []) ++ e) ++ f ≡ x ++ colon ∷ (e ++ (f ++ []))
-two-points x e f =
-    append-assoc (x ++ colon ∷ []) e f
-    ∙ append-assoc x (colon ∷ []) (e ++ f)
-    ∙ ap (λ (y : List ℕ). x ++ colon ∷ (e ++ y)) (sym (append-nil f))
-
-module _ (place : ℕ) (s : desk.Sign) (l : List ℕ) (at a : ℕ) (la : List ℕ) (b : ℕ) (lb : List ℕ) (d : ℕ) (ld : List ℕ) (e : ℕ) (le : List ℕ)
-    (first : Prints l at (blank ∷ []) a la) (second : Prints la a (decimalOf place) b lb) (third : Prints lb b (colon ∷ []) d ld)
-    (fourth : Prints ld d (encodedOf (s .first)) e le) where
-  begun : Prints l at ((blank ∷ decimalOf place ++ colon ∷ []) ++ encodedOf (s .first)) e le
-  begun =
-      prints-on l at (blank ∷ decimalOf place ++ colon ∷ []) d ld (encodedOf (s .first)) e le
-      (prints-on l at (blank ∷ decimalOf place) b lb (colon ∷ []) d ld (prints-on l at (blank ∷ []) a la (decimalOf place) b lb first second) third)
-      fourth
-
-  pub sign-one : s .second < 2 → Prints l at (signLine place (shownText s)) e le
-  sign-one h = rw (lt-ltb (s .second) 2 h) (prints-as l at _ _ e le (one-point (blank ∷ decimalOf place) (encodedOf (s .first))) begun)
-
-  pub sign-two : 2 ≤ s .second → (f : ℕ) (lf : List ℕ) → Prints le e (encodedOf (s .then)) f lf → Prints l at (signLine place (shownText s)) f lf
-  sign-two h f lf fifth =
-      rw (le-ltb (s .second) 2 h)
-      (prints-as l at _ _ f lf (two-points (blank ∷ decimalOf place) (encodedOf (s .first)) (encodedOf (s .then)))
-      (prints-on l at ((blank ∷ decimalOf place ++ colon ∷ []) ++ encodedOf (s .first)) e le (encodedOf (s .then)) f lf begun fifth))
+use Rattle.sign_lines.specs.Signs.{signLines}
+use Rattle.sign_lines.specs.Walk.{Accepted, SignsPrinted}
+use Rattle.proofing.specs.Steps.{StepsPrints, prints-signs, prints-refusal, StepsLine}
 
 -- WHAT THE FIRST STEP TELLS
 sign-number : (lead point next : ℕ) → pointsOf lead point next .number ≡ 0

@@ -14,9 +14,11 @@ use Rattle.rules.specs.Answers.{ReadsAs}
 use Rattle.reader.specs.declared.Answer.{Answer}
 use Rattle.reader.specs.declared.Answer.the-variants.{Done}
 use Rattle.reader.specs.Promise.{Read}
-use Rattle.printing.specs.Printed.{bytesOfText, lineEnd}
+use Rattle.printing.specs.Printed.{bytesOfText}
+use Rattle.replies.specs.Replies.{lineEnd}
 use Rattle.patterns.specs.Patterns.{rowOf}
-use Rattle.proofing.specs.Steps.{signLines, StepsPrints, StepsLine}
+use Rattle.sign_lines.specs.Signs.{signLines}
+use Rattle.proofing.specs.Steps.{StepsPrints, StepsLine}
 
 -- every line has a printed line
 abbrev pub EveryLineStepped : Type 0

@@ -1,32 +1,20 @@
 -- What `steps` prints for a line: "`ok` and for each sign a blank and PLACE:PRINT, by the public step alone; or `no N M` as reading refuses, without 6. An empty row prints `ok`."
--- (paper 01: "The proofing screen steps sign by sign .."). In order: a sign, printed; the signs of a text; what is printed; the promise. Not here: the row that a line shows
--- (crate `patterns`). Assumes nothing.
+-- (paper 01: "The proofing screen steps sign by sign .."). In order: what is printed; the promise. Not here: the signs of a text, printed (crate `sign_lines`), the row that a
+-- line shows (crate `patterns`). Assumes nothing.
 use mathlib.Core.List.{List, [], _∷_, _++_}
 use mathlib.Core.Path.{_≡_}
-use Prim.Native.Nat.{ℕ, _+_}
-use lib.ListN.{length}
+use Prim.Native.Nat.{ℕ}
 use Rattle.rows.specs.Laid.{laid}
 use Rattle.rules.specs.Cells.{Text, print}
 use Rattle.rules.specs.Castilian.{castilian}
-use Rattle.rules.specs.Signs.{Sign}
 use Rattle.rules.specs.Rows.{signsOf}
 use Rattle.rules.specs.Refusals.{Refusal}
 use Rattle.rules.specs.Answers.{RowRefused, ReadsAs}
 use Rattle.utf8.specs.Decoding.{decoded}
-use Rattle.printing.specs.Printed.{decimalOf, bytesOfText, lineEnd, blank, noLine, Prints}
+use Rattle.printing.specs.Printed.{Prints}
+use Rattle.replies.specs.Replies.{lineEnd, noLine}
 use Rattle.patterns.specs.Patterns.{rowOf}
-
-abbrev pub colon : ℕ
-colon = 58
-
--- "a blank and PLACE:PRINT"
-abbrev pub signLine : ℕ → Text → List ℕ
-signLine place t = blank ∷ decimalOf place ++ colon ∷ bytesOfText t
-
--- the signs of a text, each at the place where its cells start
-abbrev pub signLines : ℕ → List Sign → List ℕ
-signLines place [] = []
-signLines place (s ∷ ss) = signLine place (s .shown) ++ signLines (place + length (s .taken)) ss
+use Rattle.sign_lines.specs.Signs.{signLines}
 
 pub data StepsPrints (line : List ℕ) : List ℕ → Type 0 where
   prints-signs : (t : Text) → ReadsAs castilian (rowOf line) t → StepsPrints line (print "ok" ++ signLines 0 (signsOf castilian t) ++ lineEnd ∷ [])

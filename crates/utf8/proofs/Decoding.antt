@@ -1,19 +1,19 @@
--- All code points of some bytes. In order: one sequence and then the rest; what is stored, as far as there is room; between two sequences (`Mid`): the code points
+-- All code points of some bytes. In order: one sequence and then the rest; between two sequences (`Mid`): the code points
 -- still to come, stored behind those that are, make the whole; with room for all of them. Assumes nothing.
-use mathlib.Core.List.{List, [], _∷_, _++_}
-use mathlib.Core.Logic.{⊎-elim}
+use mathlib.Core.List.{List, [], _∷_}
 use mathlib.Core.Path.{_≡_, refl, sym, ap, _∙_}
 use Prim.Native.Nat.{ℕ, zero, suc, _+_, _-_, _≤_, _<_}
 use native.Mathlib.Omega.{arith}
-use native.Mathlib.Nat.{not-suc-le-zero, zero-add, sub-zero}
-use lib.ListN.{length, take, drop, set, length-take, length-set, drop-of-length-le}
-use lib.Seq.{drop-drop, take-all, set-out, sets, sets-eq}
+use native.Mathlib.Nat.{not-suc-le-zero, zero-add}
+use lib.ListN.{length, take, drop, set, length-set, drop-of-length-le}
+use lib.Seq.{drop-drop, take-all, sets}
 use Rattle.rows.specs.Laid.{laid}
 use Rattle.rows.proofs.Laid.{front}
-use Rattle.rules.proofs.Finite.{le-or-lt}
-use Rattle.utf8.specs.Decoding.{lengthAt, pointAt, decodedFrom, decoded, Decoded}
-use Rattle.utf8.specs.Leads.{NextIs}
-use Rattle.utf8.specs.declared.Next.{Next}
+use Rattle.rows.proofs.Stored.{stored-is}
+use Rattle.sequences.specs.Points.{lengthAt, pointAt}
+use Rattle.sequences.specs.Leads.{NextIs}
+use Rattle.sequences.specs.declared.Next.{Next}
+use Rattle.utf8.specs.Decoding.{decodedFrom, decoded, Decoded}
 
 -- ONE SEQUENCE, and then the rest
 pub behind : (k : ℕ) (bs : List ℕ) → decodedFrom k bs ≡ decoded (drop k bs)
@@ -30,22 +30,6 @@ pub decoded-on : (bytes : List ℕ) (at next : ℕ) → 0 < length (drop at byte
 decoded-on bytes at next h e =
     first-on (drop at bytes) h
     ∙ ap (λ (r : List ℕ). pointAt (drop at bytes) ∷ decoded r) (drop-drop (suc (lengthAt (drop at bytes) - 1)) at bytes ∙ ap (λ (k : ℕ). drop k bytes) (sym e))
-
--- WHAT IS STORED
-pub stored-past : (vs l : List ℕ) (i : ℕ) → length l ≤ i → sets l i vs ≡ l
-stored-past [] l i h = refl
-stored-past (v ∷ vs) l i h = rw (set-out l i v h) (stored-past vs l (suc i) (omega (arith, h)))
-
-stored-fit : (vs l : List ℕ) (i n : ℕ) → i + n ≡ length l → sets l i vs ≡ sets l i (take n vs)
-stored-fit vs l i zero e = stored-past vs l i (omega (arith, e))
-stored-fit [] l i (suc n) e = refl
-stored-fit (v ∷ vs) l i (suc n) e = stored-fit vs (set l i v) (suc i) n (rw length-set (omega (arith, e)))
-
-pub stored-is : (vs l : List ℕ) → sets l 0 vs ≡ laid (take (length l) vs) l
-stored-is vs l =
-    let w : List ℕ = take (length l) vs in
-    let room : 0 + length w ≤ length l = simp length-take (omega arith) in
-    stored-fit vs l 0 (length l) (zero-add (length l)) ∙ sets-eq w l 0 room ∙ ap (λ (k : ℕ). w ++ drop k l) (zero-add (length w))
 
 -- BETWEEN TWO SEQUENCES
 pub record Mid (bytes lent text : List ℕ) (at count : ℕ) : Type 0 where

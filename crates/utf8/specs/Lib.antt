@@ -1,5 +1,2 @@
-pub mod Forms
 pub mod Decoding
-pub mod Encoding
-pub mod Leads
 pub mod Claims

@@ -1,7 +1,7 @@
 -- `put_cells`: the invariant is `Mid` with the cells from `i` on still to come, the measure how many they are. Assumes nothing.
 use Prim.Native.Nat.{_≤_, _-_}
 use mathlib.Core.Path.{ap}
-use Rattle.utf8.specs.Encoding.{encodedOf}
+use Rattle.encoding.specs.Encoding.{encodedOf}
 use lib.ListN.{length, drop}
 use borrow.Author.Needs.{needs}
 use Rattle.printing.specs.Printed.{charactersOf}

@@ -6,7 +6,7 @@ use Rattle.printing.proofs.put_point.Tie as tie
 use Rattle.printing.proofs.put_point.Reads as reads
 use Rattle.printing.proofs.put_point.Lts as lts
 use Rattle.printing.proofs.put_all.Reads as put-all-reads
-use Rattle.utf8.proofs.encode.Reads as encode-reads
+use Rattle.encoding.proofs.encode.Reads as encode-reads
 
 slice-aggregate-encode : tie.Need-slice-aggregate-encode
 slice-aggregate-encode c = search needs

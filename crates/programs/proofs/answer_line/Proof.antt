@@ -6,7 +6,7 @@ use native.Mathlib.Omega.{arith}
 use lib.ListN.{length, take}
 use lib.Seq.{length-take-le}
 use borrow.Author.Tests.{ltb-false}
-use Rattle.answers.specs.Lines.{TranscribePrints, ReadPrints}
+use Rattle.printouts.specs.Lines.{TranscribePrints, ReadPrints}
 use Rattle.printing.proofs.Printed.{prints-within}
 use Rattle.programs.specs.declared.Program.{Program}
 use Rattle.programs.specs.Answers.{longestLine, Answered}
@@ -20,7 +20,7 @@ use Rattle.programs.proofs.answer_line.Lts as lts
 use Rattle.answers.proofs.read_line.Reads as read-line-reads
 use Rattle.answers.proofs.transcribe_line.Reads as transcribe-line-reads
 use Rattle.lines.proofs.is_long.Reads as is-long-reads
-use Rattle.printing.proofs.long_line.Reads as long-line-reads
+use Rattle.replies.proofs.long_line.Reads as long-line-reads
 use Rattle.proofing.proofs.steps_line.Reads as steps-line-reads
 
 -- THE LINE IS NOT LONG

@@ -10,8 +10,8 @@ use Rattle.desk.proofs.desk_step.Reads as desk-step-reads
 use Rattle.patterns.proofs.row_of.Reads as row-of-reads
 use Rattle.printing.proofs.put.Reads as put-reads
 use Rattle.printing.proofs.put_all.Reads as put-all-reads
-use Rattle.printing.proofs.put_refusal.Reads as put-refusal-reads
-use Rattle.proofing.proofs.put_signs.Reads as put-signs-reads
+use Rattle.replies.proofs.put_refusal.Reads as put-refusal-reads
+use Rattle.sign_lines.proofs.put_signs.Reads as put-signs-reads
 
 row-of-requires : tie.Need-row-of-requires
 row-of-requires c κs = search needs

@@ -8,7 +8,7 @@ use Rattle.utf8.proofs.decode.Statement.{statement}
 use Rattle.utf8.proofs.decode.Tie as tie
 use Rattle.utf8.proofs.decode.Reads as reads
 use Rattle.utf8.proofs.decode.Lts as lts
-use Rattle.utf8.proofs.next_at.Reads as next-at-reads
+use Rattle.sequences.proofs.next_at.Reads as next-at-reads
 use Rattle.utf8.proofs.store.Reads as store-reads
 
 abbrev Inv-loop : tie.InvT-loop

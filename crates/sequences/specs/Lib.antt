@@ -1,0 +1,4 @@
+pub mod Forms
+pub mod Points
+pub mod Leads
+pub mod Claims
