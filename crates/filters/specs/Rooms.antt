@@ -3,8 +3,8 @@ use mathlib.Core.List.{List}
 use mathlib.Core.Path.{_≡_}
 use Prim.Native.Nat.{ℕ, _≤_}
 use lib.ListN.{length}
-use Rattle.programs.specs.declared.Program.{Program}
-use Rattle.programs.specs.Answers.{longestRowLine, longestLine, roomForText, mostBytes}
+use Rattle.limits.specs.declared.Program.{Program}
+use Rattle.limits.specs.Limits.{longestRowLine, longestLine, roomForText, mostBytes}
 
 -- of a program: the rooms of its line, of code points, of a row, of a text and of what is printed
 pub record Rooms (p : Program) (l c r t o : List ℕ) : Type 0 where

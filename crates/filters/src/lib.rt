@@ -2,10 +2,10 @@
 // memory does not grow with the input. What a line is stands in `lines`, what is printed for it in `programs`.
 use libc::STDIN_FILENO;
 use libc::STDOUT_FILENO;
-use programs::LONGEST_ROW_LINE;
-use programs::MOST_BYTES;
-use programs::Program;
-use programs::ROOM_FOR_TEXT;
+use limits::LONGEST_ROW_LINE;
+use limits::MOST_BYTES;
+use limits::Program;
+use limits::ROOM_FOR_TEXT;
 ghost use Rattle.filters.specs.Rooms.{Rooms};
 
 // So many bytes are asked for at once.
@@ -121,7 +121,7 @@ pub fn run(program: Program) {
     let mut row = [0u8; LONGEST_ROW_LINE];
     let mut text = [0u32; ROOM_FOR_TEXT];
     let mut out = [0u8; MOST_BYTES];
-    let longest = programs::longest_line(program);
+    let longest = limits::longest_line(program);
     filter(
         program,
         &mut chunk,

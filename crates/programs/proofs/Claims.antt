@@ -24,9 +24,11 @@ use Rattle.printouts.proofs.Claims as printouts
 use Rattle.printouts.proofs.Lengths.{characters-three, given-bytes}
 use Rattle.printouts.proofs.Lines.{room-for-row}
 use Rattle.proofing.proofs.Claims as proofing
-use Rattle.programs.specs.declared.Program.{Program}
-use Rattle.programs.specs.declared.Program.the-variants.{Transcribe, Read, Steps}
-use Rattle.programs.specs.Answers.{longestRowLine, longestLine, roomForCells, roomForText, Answered, AnswerTo, too-long, answered, OutputFor, no-line, one-more, Output}
+use Rattle.limits.specs.declared.Program.{Program}
+use Rattle.limits.specs.declared.Program.the-variants.{Transcribe, Read, Steps}
+use Rattle.limits.specs.Limits.{longestLine, roomForCells, roomForText}
+use Rattle.limits.proofs.Claims.{rows-fit}
+use Rattle.programs.specs.Answers.{Answered, AnswerTo, too-long, answered, OutputFor, no-line, one-more, Output}
 use Rattle.programs.specs.Claims.{EveryInputAnswered, OneOutput, MostBytes, PaperExample, ReadUndoesTranscribe}
 use Rattle.programs.proofs.Bounds as bounds
 
@@ -78,8 +80,8 @@ print-short p room r (rules.transcribed s short reads fits) = short
 
 pub read-undoes-transcribe : ReadUndoesTranscribe
 read-undoes-transcribe line r g =
-    let few : length (charactersOf r) ≤ longestRowLine =
-    omega (arith, characters-three r (given-bytes (decoded line) roomForCells r g), room-for-row (decoded line) roomForCells r g) in
+    let few : length (charactersOf r) ≤ longestLine Read =
+    omega (arith, rows-fit, characters-three r (given-bytes (decoded line) roomForCells r g), room-for-row (decoded line) roomForCells r g) in
     answered (okLine (bytesOfText (normalOf (decoded line)))) few
     (printouts.line-there-and-back roomForCells line r g roomForText (print-short (decoded line) roomForCells r g))
 

@@ -13,8 +13,9 @@ use Rattle.lines.proofs.Claims.{long-exactly, held-is-the-line}
 use Rattle.printing.specs.Printed.{Prints}
 use Rattle.printing.proofs.Printed.{prints-laid}
 use Rattle.replies.specs.Replies.{longLine}
-use Rattle.programs.specs.declared.Program.{Program}
-use Rattle.programs.specs.Answers.{longestLine, mostBytes, Answered, AnswerTo, too-long, answered, AnswersLine}
+use Rattle.limits.specs.declared.Program.{Program}
+use Rattle.limits.specs.Limits.{longestLine, mostBytes}
+use Rattle.programs.specs.Answers.{Answered, AnswerTo, too-long, answered, AnswersLine}
 
 -- what is printed from the front, where there is room for all of it
 all-printed : (out x : List ℕ) (r : ℕ) (new : List ℕ) → length x ≤ length out → Prints out 0 x r new → (r ≡ length x) × (new ≡ laid x out)

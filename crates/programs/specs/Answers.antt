@@ -1,5 +1,5 @@
--- The line programs as a whole (paper 01, "The line program"; its companions `read` and `steps`). In order: how long a line may be; the answer to a line; the output for an
--- input; the promise. Not here: what the lines of an input are (crate `lines`), what is printed for one that is not long (crates `printouts`, `proofing`). Assumes nothing.
+-- The line programs as a whole (paper 01, "The line program"; its companions `read` and `steps`). In order: the answer to a line; the output for an input; the
+-- promise. Not here: how long a line may be (crate `limits`), what the lines of an input are (crate `lines`), what is printed for one that is not long (crates `printouts`, `proofing`). Assumes nothing.
 use mathlib.Core.List.{List, [], _∷_, _++_}
 use mathlib.Core.Path.{_≡_}
 use Prim.Native.Nat.{ℕ, _≤_, _<_}
@@ -10,27 +10,9 @@ use Rattle.rows.specs.Laid.{laid}
 use Rattle.replies.specs.Replies.{longLine}
 use Rattle.printouts.specs.Lines.{TranscribePrints, ReadPrints}
 use Rattle.proofing.specs.Steps.{StepsPrints}
-use Rattle.programs.specs.declared.Program.{Program}
-use Rattle.programs.specs.declared.Program.the-variants.{Transcribe, Read, Steps}
-
--- "A line above 16,384 bytes, its end not counted, prints `long`"; of cells: above 40,960
-abbrev pub longestPrintLine : ℕ
-longestPrintLine = 16384
-
-abbrev pub longestRowLine : ℕ
-longestRowLine = 40960
-
-abbrev pub longestLine : Program → ℕ
-longestLine Transcribe = longestPrintLine
-longestLine Read = longestRowLine
-longestLine Steps = longestRowLine
-
--- "Lent room is 12,288"; `read`: 4,096
-abbrev pub roomForCells : ℕ
-roomForCells = 12288
-
-abbrev pub roomForText : ℕ
-roomForText = 4096
+use Rattle.limits.specs.declared.Program.{Program}
+use Rattle.limits.specs.declared.Program.the-variants.{Transcribe, Read, Steps}
+use Rattle.limits.specs.Limits.{longestLine, roomForCells, roomForText}
 
 -- what each prints for a line that is not long
 abbrev pub Answered : Program → List ℕ → List ℕ → Type 0
@@ -50,10 +32,6 @@ pub data OutputFor (p : Program) : List (List ℕ) → List ℕ → Type 0 where
 
 abbrev pub Output : Program → List ℕ → List ℕ → Type 0
 Output p input out = OutputFor p (linesOf input) out
-
--- no answer has more bytes (`Claims.MostBytes`)
-abbrev pub mostBytes : ℕ
-mostBytes = 106499
 
 -- THE PROMISE of `answer_line`: whatever line the room shows (`Holds`), what is printed is an answer to it, all of it, from the first element of `out` on; behind it `out` is as it was
 abbrev pub AnswersLine : Program → List ℕ → ℕ → List ℕ → ℕ → List ℕ → Type 0

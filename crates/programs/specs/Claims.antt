@@ -11,9 +11,10 @@ use Rattle.rules.specs.Answers.{gives, PrintAnswer}
 use Rattle.utf8.specs.Decoding.{decoded}
 use Rattle.printing.specs.Printed.{charactersOf, bytesOfText}
 use Rattle.replies.specs.Replies.{okLine, lineEnd}
-use Rattle.programs.specs.declared.Program.{Program}
-use Rattle.programs.specs.declared.Program.the-variants.{Transcribe, Read}
-use Rattle.programs.specs.Answers.{roomForCells, mostBytes, AnswerTo, Output}
+use Rattle.limits.specs.declared.Program.{Program}
+use Rattle.limits.specs.declared.Program.the-variants.{Transcribe, Read}
+use Rattle.limits.specs.Limits.{roomForCells, mostBytes}
+use Rattle.programs.specs.Answers.{AnswerTo, Output}
 
 -- Demand 1, of the programs: every input has an output, and "any two results allowed by one statement are proved equal"
 abbrev pub EveryInputAnswered : Type 0

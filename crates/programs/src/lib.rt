@@ -1,43 +1,12 @@
-// The three line programs: how long a line each takes, what it lends, and what it prints for a line. What an input is cut into stands in `lines`; reading and writing stand
-// in `filters`.
+// The three line programs: what each prints for a line. How long a line each takes and what it lends stands in `limits`, what an input is cut into in `lines`; reading and
+// writing stand in `filters`.
+use limits::Program;
+use limits::ROOM_FOR_CELLS;
 ghost use mathlib.Core.Path.{_≡_};
 ghost use Prim.Native.Nat.{_≤_};
 ghost use lib.ListN.{length};
-ghost use Rattle.programs.specs.Answers.{longestRowLine, longestLine, roomForText, mostBytes, AnswersLine};
-
-pub enum Program {
-    // print to cells
-    Transcribe,
-    // cells to print
-    Read,
-    // cells to signs with their places
-    Steps,
-}
-
-// "A line above 16,384 bytes, its end not counted, prints `long`": of print. A line of cells may have more, since a row of 12,288 cells has three bytes for each.
-const LONGEST_PRINT_LINE: usize = 16384;
-
-pub const LONGEST_ROW_LINE: usize = 40960;
-
-// "Lent room is 12,288": cells; and code points, for the way back
-pub const ROOM_FOR_CELLS: usize = 12288;
-
-pub const ROOM_FOR_TEXT: usize = 4096;
-
-// No answer has more bytes.
-pub const MOST_BYTES: usize = 106499;
-
-// The most bytes that a program takes as a line.
-pub fn longest_line(program: Program) -> usize
-    ensures { λ r. ⌜ r ≡ longestLine program ⌝ }
-    ensures { λ r. ⌜ r ≤ longestRowLine ⌝ }
-{
-    match program {
-        Program::Transcribe => LONGEST_PRINT_LINE,
-        Program::Read => LONGEST_ROW_LINE,
-        Program::Steps => LONGEST_ROW_LINE,
-    }
-}
+ghost use Rattle.limits.specs.Limits.{longestRowLine, longestLine, roomForText, mostBytes};
+ghost use Rattle.programs.specs.Answers.{AnswersLine};
 
 // What is printed for a line, whose bytes `line` holds, or of which it holds that it is long (`lines`). It goes to the front of `out`; the other slices are room to work in.
 // Two wrong programs that the promise shuts out: one that answers the beginning of a long line, and one that prints for a line what the line before it was answered.

@@ -1,4 +1,4 @@
 // The proofing screen on paper: rows of cells to their signs, each with its place.
 fn main() {
-    filters::run(programs::Program::Steps);
+    filters::run(limits::Program::Steps);
 }

@@ -10,7 +10,7 @@ use Rattle.filters.proofs.run.Tie as tie
 use Rattle.filters.proofs.run.Reads as reads
 use Rattle.filters.proofs.run.Lts as lts
 use Rattle.filters.proofs.filter.Reads as filter-reads
-use Rattle.programs.proofs.longest_line.Reads as longest-line-reads
+use Rattle.limits.proofs.longest_line.Reads as longest-line-reads
 
 longest-line-requires : tie.Need-longest-line-requires
 longest-line-requires c κs = search needs

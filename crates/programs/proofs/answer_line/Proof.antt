@@ -8,9 +8,11 @@ use lib.Seq.{length-take-le}
 use borrow.Author.Tests.{ltb-false}
 use Rattle.printouts.specs.Lines.{TranscribePrints, ReadPrints}
 use Rattle.printing.proofs.Printed.{prints-within}
-use Rattle.programs.specs.declared.Program.{Program}
-use Rattle.programs.specs.Answers.{longestLine, Answered}
-use Rattle.programs.proofs.Bounds.{longest-line, most-bytes}
+use Rattle.limits.specs.declared.Program.{Program}
+use Rattle.limits.specs.Limits.{longestLine}
+use Rattle.limits.proofs.Claims.{longest-line}
+use Rattle.programs.specs.Answers.{Answered}
+use Rattle.programs.proofs.Bounds.{most-bytes}
 use Rattle.programs.proofs.Lines.{long-answered, line-answered}
 use borrow.Author.Needs.{needs}
 use Rattle.programs.proofs.answer_line.Statement.{statement}

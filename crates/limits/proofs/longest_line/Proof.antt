@@ -2,11 +2,11 @@
 use mathlib.Core.Path.{sym, ap}
 use native.Mathlib.Omega.{arith}
 use borrow.Author.Needs.{needs}
-use Rattle.programs.specs.Answers.{longestLine}
-use Rattle.programs.proofs.longest_line.Statement.{statement}
-use Rattle.programs.proofs.longest_line.Tie as tie
-use Rattle.programs.proofs.longest_line.Reads as reads
-use Rattle.programs.proofs.longest_line.Lts as lts
+use Rattle.limits.specs.Limits.{longestLine}
+use Rattle.limits.proofs.longest_line.Statement.{statement}
+use Rattle.limits.proofs.longest_line.Tie as tie
+use Rattle.limits.proofs.longest_line.Reads as reads
+use Rattle.limits.proofs.longest_line.Lts as lts
 
 enum-told : tie.Need-enum-told
 enum-told c = search needs
