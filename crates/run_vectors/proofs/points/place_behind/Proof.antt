@@ -1,22 +1,18 @@
 -- `run_vectors::points::place_behind` is safe: none of the three numbers is above the largest, so their product and sum fit. Assumes nothing.
 use native.Mathlib.Omega.{arith}
 use native.Mathlib.Nat.{mul-le-mul}
-use Prim.Native.Nat.{ℕ, _*_, _≤_}
 use Rattle.run_vectors.proofs.points.place_behind.Statement.{statement}
 use Rattle.run_vectors.proofs.points.place_behind.Tie as tie
-
-product : (n k : ℕ) → n ≤ 4294967295 → k ≤ 4294967295 → n * k ≤ 4294967295 * 4294967295
-product n k = mul-le-mul
 
 mul-result : tie.Need-mul-result
 mul-result c =
     let e = c .before .before .before .args in
-    omega (arith, product (e .count) (e .times) (omega arith) (omega arith))
+    omega (arith, mul-le-mul {n₁ = e .count} {m₁ = e .times} {n₂ = 4294967295} {m₂ = 4294967295} (omega arith) (omega arith))
 
 add-result : tie.Need-add-result
 add-result c =
     let e = c .before .before .before .args in
-    omega (arith, product (e .count) (e .times) (omega arith) (omega arith))
+    omega (arith, mul-le-mul {n₁ = e .count} {m₁ = e .times} {n₂ = 4294967295} {m₂ = 4294967295} (omega arith) (omega arith))
 
 returns : tie.Need-returns
 returns c = tt

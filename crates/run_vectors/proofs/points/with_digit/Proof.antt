@@ -2,12 +2,8 @@
 -- what a word holds. Assumes nothing.
 use native.Mathlib.Omega.{arith}
 use native.Mathlib.Nat.{mul-le-mul}
-use Prim.Native.Nat.{ℕ, _*_, _≤_, _<_}
 use Rattle.run_vectors.proofs.points.with_digit.Statement.{statement}
 use Rattle.run_vectors.proofs.points.with_digit.Tie as tie
-
-product : (n b : ℕ) → n ≤ 4294967295 → b ≤ 16 → n * b ≤ 4294967295 * 16
-product n b = mul-le-mul
 
 digit-of-requires : tie.Need-digit-of-requires
 digit-of-requires c κs = tt
@@ -21,12 +17,12 @@ returns-2 c = tt
 mul-result : tie.Need-mul-result
 mul-result c =
     let e = c .before .before .before .args in
-    omega (arith, product (e .number) (e .base) (omega arith) (omega arith))
+    omega (arith, mul-le-mul {n₁ = e .number} {m₁ = e .base} {n₂ = 4294967295} {m₂ = 16} (omega arith) (omega arith))
 
 add-result : tie.Need-add-result
 add-result c =
     let e = c .before .before .before .args in
-    omega (arith, product (e .number) (e .base) (omega arith) (omega arith))
+    omega (arith, mul-le-mul {n₁ = e .number} {m₁ = e .base} {n₂ = 4294967295} {m₂ = 16} (omega arith) (omega arith))
 
 returns-3 : tie.Need-returns-3
 returns-3 c = tt
