@@ -2,36 +2,30 @@
 ghost use Prim.Native.Nat.{_≤_, _<_};
 ghost use lib.ListN.{length};
 
-// What a line is by its first word.
-pub enum Kind {
-    // empty, or a comment
-    Free,
-    Name,
-    Print,
-    Points,
-    Times,
-    Before,
-    Cells,
-    No,
-    Unknown,
-}
+pub const LINE_FEED: u8 = 10;
 
-const LINE_FEED: u8 = 10;
+pub const BLANK: u8 = 32;
 
-const BLANK: u8 = 32;
+const COMMENT: u8 = b'#';
 
-// The byte at a place, and 0 past the end.
-pub fn byte_at(bytes: &[u8], at: usize) -> u8 {
-    if at < bytes.len() { bytes[at] } else { 0 }
-}
+// The first word of a line as a number: its bytes in base 256. FREE: there is none.
+pub const FREE: u64 = 0;
 
-// The part between two ends, and the empty part where they are none.
-pub fn part(bytes: &[u8], from: usize, to: usize) -> &[u8] {
-    if from <= to && to <= bytes.len() {
-        return &bytes[from..to];
-    }
-    &bytes[..0]
-}
+pub const NAME: u64 = 0x6E616D65;
+
+pub const PRINT: u64 = 0x7072696E74;
+
+pub const POINTS: u64 = 0x706F696E7473;
+
+pub const TIMES: u64 = 0x74696D6573;
+
+pub const BEFORE: u64 = 0x6265666F7265;
+
+pub const CELLS: u64 = 0x63656C6C73;
+
+pub const NO: u64 = 0x6E6F;
+
+const BITS_OF_A_BYTE: u64 = 8;
 
 // The first place from `from` on that holds `mark`, or the end.
 pub fn place_of(mark: u8, bytes: &[u8], from: usize) -> usize
@@ -48,67 +42,42 @@ pub fn place_of(mark: u8, bytes: &[u8], from: usize) -> usize
     i
 }
 
-// Where the line that starts at `from` ends.
-pub fn line_end(file: &[u8], from: usize) -> usize
-    requires { ⌜ from ≤ length (now file) ⌝ }
-    ensures { λ r. ⌜ (from ≤ r) × (r ≤ length (now (file .entry))) ⌝ }
-{
-    place_of(LINE_FEED, file, from)
+// What follows the first word of a line and its blank.
+pub fn behind_word(line: &[u8]) -> &[u8] {
+    let end = place_of(BLANK, line, 0);
+    if end < line.len() {
+        return &line[end + 1..];
+    }
+    &line[end..]
 }
 
-// Where the word that starts at `from` ends.
-pub fn word_end(line: &[u8], from: usize) -> usize
-    requires { ⌜ from ≤ length (now line) ⌝ }
-    ensures { λ r. ⌜ (from ≤ r) × (r ≤ length (now (line .entry))) ⌝ }
-{
-    place_of(BLANK, line, from)
+// What follows the first word of the line that begins at a place. (No line begins past the end.)
+pub fn rest_of(file: &[u8], from: usize) -> &[u8] {
+    if from < file.len() {
+        return behind_word(&file[from..place_of(LINE_FEED, file, from)]);
+    }
+    &file[..0]
 }
 
-// Whether the line is `word` alone or `word`, a blank and more.
-fn begins(line: &[u8], word: &[u8]) -> bool {
-    let mut i = 0;
-    while i < word.len() {
-        if byte_at(line, i) != word[i] {
-            return false;
+fn wide(byte: u8) -> u64 {
+    byte as u64
+}
+
+// The first word of the line that begins at a place. A comment has none. (Of more than eight bytes the last eight count: no first word is so long.)
+pub fn first_word(file: &[u8], from: usize) -> u64
+    requires { ⌜ from < length (now file) ⌝ }
+{
+    if file[from] == COMMENT {
+        return FREE;
+    }
+    let mut word: u64 = 0;
+    let mut i = from;
+    while i < file.len() {
+        if file[i] <= BLANK {
+            return word;
         }
+        word = (word << BITS_OF_A_BYTE) | wide(file[i]);
         i += 1;
     }
-    line.len() == word.len() || byte_at(line, i) == BLANK
-}
-
-// What the line is.
-pub fn kind_of(line: &[u8]) -> Kind {
-    if line.len() == 0 || byte_at(line, 0) == b'#' {
-        return Kind::Free;
-    }
-    if begins(line, b"name") {
-        return Kind::Name;
-    }
-    if begins(line, b"print") {
-        return Kind::Print;
-    }
-    if begins(line, b"points") {
-        return Kind::Points;
-    }
-    if begins(line, b"times") {
-        return Kind::Times;
-    }
-    if begins(line, b"before") {
-        return Kind::Before;
-    }
-    if begins(line, b"cells") {
-        return Kind::Cells;
-    }
-    if begins(line, b"no") {
-        return Kind::No;
-    }
-    Kind::Unknown
-}
-
-// Where what follows the first word and its blank begins: never past the line's end.
-pub fn rest_from(line: &[u8]) -> usize
-    ensures { λ r. ⌜ r ≤ length (now (line .entry)) ⌝ }
-{
-    let end = word_end(line, 0);
-    if end < line.len() { end + 1 } else { end }
+    word
 }

@@ -5,12 +5,10 @@ fn text(bytes: &[u8]) {
     io::write_all(STDOUT_FILENO, bytes);
 }
 
-fn number(n: u64) {
-    io::print_decimal(STDOUT_FILENO, n);
-}
-
-fn size(n: usize) {
-    number(n as u64);
+// A number, with a blank before it.
+fn number(n: usize) {
+    text(b" ");
+    io::print_decimal(STDOUT_FILENO, n as u64);
 }
 
 // `ok NAME`
@@ -20,56 +18,30 @@ pub fn right(name: &[u8]) {
     text(b"\n");
 }
 
-// `FAILED NAME: answered cells 4 at room 12`, with no line end
-fn failed(name: &[u8], refusal: u64, second: usize, room: usize) {
+// `FAILED NAME 12 0 4 3`: the room, the answer's two numbers, and the first place where the row is wrong
+pub fn wrong(name: &[u8], room: usize, answer: usize, second: usize, place: usize) {
     text(b"FAILED ");
     text(name);
-    text(b": answered ");
-    if refusal == 0 {
-        text(b"cells ");
-    } else {
-        text(b"no ");
-        number(refusal);
-        text(b" ");
-    }
-    size(second);
-    text(b" at room ");
-    size(room);
-}
-
-// `FAILED NAME: answered no 5 2 at room 0`
-pub fn wrong_answer(name: &[u8], refusal: u64, second: usize, room: usize) {
-    failed(name, refusal, second, room);
-    text(b"\n");
-}
-
-// `FAILED NAME: answered cells 4 at room 12, and the row is wrong at 3`
-pub fn wrong_row(name: &[u8], refusal: u64, second: usize, room: usize, place: usize) {
-    failed(name, refusal, second, room);
-    text(b", and the row is wrong at ");
-    size(place);
+    number(room);
+    number(answer);
+    number(second);
+    number(place);
     text(b"\n");
 }
 
 // `BAD LINE N`
-pub fn bad_line(line: u64) {
-    text(b"BAD LINE ");
+pub fn bad_line(line: usize) {
+    text(b"BAD LINE");
     number(line);
     text(b"\n");
 }
 
-// `N vectors, M failed`, and the count of bad lines where there are any
-pub fn totals(vectors: u64, failures: u64, bad: u64) {
-    number(vectors);
-    text(b" vectors, ");
+// `N vectors, M failed`
+pub fn totals(vectors: usize, failures: usize) {
+    io::print_decimal(STDOUT_FILENO, vectors as u64);
+    text(b" vectors,");
     number(failures);
-    text(b" failed");
-    if 0 < bad {
-        text(b", ");
-        number(bad);
-        text(b" bad lines");
-    }
-    text(b"\n");
+    text(b" failed\n");
 }
 
 // The file does not fit.

@@ -1,6 +1,7 @@
--- `run_vectors::points::repeat` is safe and ends. The invariant: what is filled is within the buffer, which keeps its length. The measure is
--- the count of repeats that are left. Assumes nothing.
+-- `run_vectors::points::repeat` is safe and ends. The invariant: the place is not before the first, and the slice keeps its length. The measure is what is left to
+-- fill. Assumes nothing.
 use native.Mathlib.Omega.{arith}
+use borrow.Author.Needs.{needs}
 use Prim.Native.Nat.{_-_, _≤_}
 use lib.ListN.{length}
 use mathlib.Core.Path.{_≡_}
@@ -8,46 +9,43 @@ use Rattle.run_vectors.proofs.points.repeat.Statement.{statement}
 use Rattle.run_vectors.proofs.points.repeat.Tie as tie
 
 abbrev Inv-loop : tie.InvT-loop
-Inv-loop out₀ count times n₀ done₀ out n done = (n ≤ length out) × (length out ≡ length out₀)
+Inv-loop out₀ at count i₀ out i = (at ≤ i) × (length out ≡ length out₀)
 
 abbrev μ-loop : tie.MeasureT-loop
-μ-loop out₀ count times n₀ done₀ out n done = times - done
-
-returns : tie.Need-returns Inv-loop μ-loop
-returns c = tt
+μ-loop out₀ at count i₀ out i = length out₀ - i
 
 loop-holds : tie.Need-loop-holds Inv-loop μ-loop
 loop-holds c = omega arith
 
-sub-if2 : tie.Need-sub-if2 Inv-loop μ-loop
-sub-if2 c = omega arith
+sub-out : tie.Need-sub-out Inv-loop μ-loop
+sub-out c = omega arith
 
-same-length : tie.Need-same-length Inv-loop μ-loop
-same-length c = omega arith
+mul-out : tie.Need-mul-out Inv-loop μ-loop
+mul-out c = omega arith
 
-returns-2 : tie.Need-returns-2 Inv-loop μ-loop
-returns-2 c = tt
+slice-read-out : tie.Need-slice-read-out Inv-loop μ-loop
+slice-read-out c = omega arith
 
-copy-front-requires : tie.Need-copy-front-requires Inv-loop μ-loop
-copy-front-requires c κs = omega arith
+mul-out-2 : tie.Need-mul-out-2 Inv-loop μ-loop
+mul-out-2 c = omega arith
 
-add-n : tie.Need-add-n Inv-loop μ-loop
-add-n c = omega arith
+slice-write-out : tie.Need-slice-write-out Inv-loop μ-loop
+slice-write-out c = omega arith
 
-add-done : tie.Need-add-done Inv-loop μ-loop
-add-done c = omega arith
+add-i : tie.Need-add-i Inv-loop μ-loop
+add-i c = omega arith
 
 loop-less : tie.Need-loop-less Inv-loop μ-loop
 loop-less c = omega arith
 
 loop-again : tie.Need-loop-again Inv-loop μ-loop
-loop-again c = omega arith
+loop-again c = search needs
 
-same-length-2 : tie.Need-same-length-2 Inv-loop μ-loop
-same-length-2 c = omega arith
+same-length : tie.Need-same-length Inv-loop μ-loop
+same-length c = omega arith
 
-returns-3 : tie.Need-returns-3 Inv-loop μ-loop
-returns-3 c = tt
+returns : tie.Need-returns Inv-loop μ-loop
+returns c = tt
 
 pub repeat-spec : {M : Type 1} → statement M
 repeat-spec =
@@ -55,15 +53,14 @@ repeat-spec =
     (tie.spec
     Inv-loop
     μ-loop
-    returns
     loop-holds
-    sub-if2
-    same-length
-    returns-2
-    copy-front-requires
-    add-n
-    add-done
+    sub-out
+    mul-out
+    slice-read-out
+    mul-out-2
+    slice-write-out
+    add-i
     loop-less
     loop-again
-    same-length-2
-    returns-3)
+    same-length
+    returns)

@@ -1,5 +1,4 @@
--- `run_vectors::trials::first_difference` is safe and ends. The invariant: the place is within the row. The measure is what is left of it.
--- Assumes nothing.
+-- `run_vectors::trials::first_difference` is safe and ends. The invariant: the place is within the row. The measure is what is left of it. Assumes nothing.
 use native.Mathlib.Omega.{arith}
 use Prim.Native.Nat.{_-_, _≤_}
 use lib.ListN.{length}
@@ -15,14 +14,11 @@ abbrev μ-loop : tie.MeasureT-loop
 loop-holds : tie.Need-loop-holds Inv-loop μ-loop
 loop-holds c = omega arith
 
-shared-slice-read-wide : tie.Need-shared-slice-read-wide Inv-loop μ-loop
-shared-slice-read-wide c = omega arith
+shared-slice-read-is-due : tie.Need-shared-slice-read-is-due Inv-loop μ-loop
+shared-slice-read-is-due c = omega arith
 
-wide-requires : tie.Need-wide-requires Inv-loop μ-loop
-wide-requires c κs = tt
-
-due-at-requires : tie.Need-due-at-requires Inv-loop μ-loop
-due-at-requires c κs = tt
+is-due-requires : tie.Need-is-due-requires Inv-loop μ-loop
+is-due-requires c κs = tt
 
 returns : tie.Need-returns Inv-loop μ-loop
 returns c = tt
@@ -46,9 +42,8 @@ first-difference-spec =
     Inv-loop
     μ-loop
     loop-holds
-    shared-slice-read-wide
-    wide-requires
-    due-at-requires
+    shared-slice-read-is-due
+    is-due-requires
     returns
     add-i
     loop-less

@@ -1,22 +1,15 @@
--- `run_vectors::points::are_patterns` is safe and ends. The invariant: the place is within the slice. The measure is what is left of it.
--- Assumes nothing.
+-- `run_vectors::lines::first_word` is safe and ends. The invariant: the place is within the file. The measure is what is left of it. Assumes nothing.
 use native.Mathlib.Omega.{arith}
 use Prim.Native.Nat.{_-_, _≤_}
 use lib.ListN.{length}
-use Rattle.run_vectors.proofs.points.are_patterns.Statement.{statement}
-use Rattle.run_vectors.proofs.points.are_patterns.Tie as tie
+use Rattle.run_vectors.proofs.lines.first_word.Statement.{statement}
+use Rattle.run_vectors.proofs.lines.first_word.Tie as tie
 
 abbrev Inv-loop : tie.InvT-loop
-Inv-loop points i₀ i = i ≤ length points
+Inv-loop file from word₀ i₀ word i = i ≤ length file
 
 abbrev μ-loop : tie.MeasureT-loop
-μ-loop points i₀ i = length points - i
-
-loop-holds : tie.Need-loop-holds Inv-loop μ-loop
-loop-holds c = omega arith
-
-mul-if1 : tie.Need-mul-if1 Inv-loop μ-loop
-mul-if1 c = omega arith
+μ-loop file from word₀ i₀ word i = length file - i
 
 shared-slice-read-if1 : tie.Need-shared-slice-read-if1 Inv-loop μ-loop
 shared-slice-read-if1 c = omega arith
@@ -24,17 +17,20 @@ shared-slice-read-if1 c = omega arith
 returns : tie.Need-returns Inv-loop μ-loop
 returns c = tt
 
-add-if2 : tie.Need-add-if2 Inv-loop μ-loop
-add-if2 c = omega arith
-
-mul-if2 : tie.Need-mul-if2 Inv-loop μ-loop
-mul-if2 c = omega arith
+loop-holds : tie.Need-loop-holds Inv-loop μ-loop
+loop-holds c = omega arith
 
 shared-slice-read-if2 : tie.Need-shared-slice-read-if2 Inv-loop μ-loop
 shared-slice-read-if2 c = omega arith
 
 returns-2 : tie.Need-returns-2 Inv-loop μ-loop
 returns-2 c = tt
+
+shared-slice-read-wide : tie.Need-shared-slice-read-wide Inv-loop μ-loop
+shared-slice-read-wide c = omega arith
+
+wide-requires : tie.Need-wide-requires Inv-loop μ-loop
+wide-requires c κs = tt
 
 add-i : tie.Need-add-i Inv-loop μ-loop
 add-i c = omega arith
@@ -48,20 +44,19 @@ loop-again c = omega arith
 returns-3 : tie.Need-returns-3 Inv-loop μ-loop
 returns-3 c = tt
 
-pub are-patterns-spec : {M : Type 1} → statement M
-are-patterns-spec =
+pub first-word-spec : {M : Type 1} → statement M
+first-word-spec =
     tie.close
     (tie.spec
     Inv-loop
     μ-loop
-    loop-holds
-    mul-if1
     shared-slice-read-if1
     returns
-    add-if2
-    mul-if2
+    loop-holds
     shared-slice-read-if2
     returns-2
+    shared-slice-read-wide
+    wide-requires
     add-i
     loop-less
     loop-again
