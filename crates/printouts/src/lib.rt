@@ -9,16 +9,16 @@ ghost use Rattle.printing.specs.Printed.{Prints};
 ghost use Rattle.printouts.specs.Lines.{rowReply, textReply};
 
 // The number that no refusal has.
-pub const DONE: usize = 0;
+const DONE: usize = 0;
 
-// "`ok`, a blank and one character U+2800 plus the cell for each cell; or `no`, the refusal number and the second number": so many cells as are told, of those that are lent.
+// "`ok`, a blank and one character U+2800 plus the cell for each cell; or `no`, ..": so many cells as are told, of those that are lent.
 // Two wrong programs that the promise shuts out: one that prints the whole of the lent row, and one that prints a refusal as a row.
 pub fn print_row(out: &mut [u8], number: usize, second: usize, row: &[u8]) -> usize
     requires { ⌜ (number ≡ 0 → second ≤ length (now row)) ⌝ }
     ensures { λ r. ⌜ Prints (now (out .entry)) 0 (rowReply number second (now (row .entry))) r (now (out .exit)) ⌝ }
 {
     if number != DONE {
-        return put_refusal(out, number, second);
+        return put_refusal(out, number, second); // "or `no`, the refusal number and the second number"
     }
     let cells = second;
     row_line(out, &row[..cells])
@@ -30,7 +30,7 @@ pub fn print_text(out: &mut [u8], number: usize, second: usize, text: &[u32]) ->
     ensures { λ r. ⌜ Prints (now (out .entry)) 0 (textReply number second (now (text .entry))) r (now (out .exit)) ⌝ }
 {
     if number != DONE {
-        return put_refusal(out, number, second);
+        return put_refusal(out, number, second); // "or `no N M`"
     }
     let count = second;
     text_line(out, &text[..count])

@@ -8,7 +8,7 @@ use Rattle.proofing.proofs.Claims as proofing
 use Rattle.limits.specs.declared.Program.{Program}
 use Rattle.limits.specs.declared.Program.the-variants.{Transcribe, Read, Steps}
 use Rattle.limits.specs.Limits.{mostBytes}
-use Rattle.programs.specs.Answers.{Answered, AnswerTo, too-long, answered}
+use Rattle.programs.specs.Answers.{Answered, too-long, answered}
 use Rattle.programs.specs.Claims.{MostBytes}
 
 answer-room : (p : Program) (line x : List ℕ) → Answered p line x → length x ≤ mostBytes

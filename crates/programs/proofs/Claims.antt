@@ -1,8 +1,8 @@
 -- The claims of specs/Claims.antt: line by line, by the claims of `printouts` and `proofing`. Assumes nothing.
 use mathlib.Core.List.{List, [], _∷_, _++_}
 use mathlib.Core.Logic.{⊎-elim}
-use mathlib.Core.Path.{_≡_, refl, sym, ap, subst, _∙_}
-use Prim.Native.Nat.{ℕ, _+_, _≤_, _<_}
+use mathlib.Core.Path.{_≡_, refl, ap, subst, _∙_}
+use Prim.Native.Nat.{ℕ, _+_, _≤_}
 use native.Mathlib.Omega.{arith}
 use lib.ListN.{length}
 use Rattle.rules.specs.Cells.{Text, Row, dots, cells, print}
@@ -11,7 +11,7 @@ use Rattle.rules.specs.Answers as rules
 use Rattle.rules.specs.Answers.{Answer, gives, refuses, PrintAnswer}
 use Rattle.rules.specs.Castilian.{castilian}
 use Rattle.rules.specs.Refusals.{Refusal, numberOf, secondOf}
-use Rattle.rules.specs.Worked.{Expected, row, number, lines, shownAs}
+use Rattle.rules.specs.Worked.{row, number, lines, shownAs}
 use Rattle.rules.proofs.Demands.{worked}
 use Rattle.rules.proofs.Finite.{le-or-lt}
 use Rattle.lines.specs.Lines.{linesOf}
@@ -28,7 +28,7 @@ use Rattle.limits.specs.declared.Program.{Program}
 use Rattle.limits.specs.declared.Program.the-variants.{Transcribe, Read, Steps}
 use Rattle.limits.specs.Limits.{longestLine, roomForCells, roomForText}
 use Rattle.limits.proofs.Claims.{rows-fit}
-use Rattle.programs.specs.Answers.{Answered, AnswerTo, too-long, answered, OutputFor, no-line, one-more, Output}
+use Rattle.programs.specs.Answers.{Answered, AnswerTo, too-long, answered, OutputFor, no-line, one-more}
 use Rattle.programs.specs.Claims.{EveryInputAnswered, OneOutput, MostBytes, PaperExample, ReadUndoesTranscribe}
 use Rattle.programs.proofs.Bounds as bounds
 

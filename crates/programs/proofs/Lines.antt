@@ -1,14 +1,13 @@
 -- The answer to a line that a room shows. In order: a long line; one that is not long. Assumes nothing.
 use mathlib.Core.Bool.{true, false}
 use mathlib.Core.List.{List}
-use mathlib.Core.Path.{_≡_, refl, sym, ap, subst, _∙_}
-use Prim.Native.Nat.{ℕ, _+_, _≤_, _<_}
+use mathlib.Core.Path.{_≡_, sym, subst, _∙_}
+use Prim.Native.Nat.{ℕ, _≤_, _<_}
 use native.Mathlib.Omega.{arith}
-use lib.Dec.{ltb}
 use lib.ListN.{length, take}
 use borrow.Author.Tests.{ltb-true, ltb-false}
 use Rattle.rows.specs.Laid.{laid}
-use Rattle.lines.specs.Held.{Holds, isLong}
+use Rattle.lines.specs.Held.{isLong}
 use Rattle.lines.proofs.Claims.{long-exactly, held-is-the-line}
 use Rattle.printing.specs.Printed.{Prints}
 use Rattle.printing.proofs.Printed.{prints-laid}

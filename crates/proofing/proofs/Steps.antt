@@ -26,7 +26,7 @@ use Rattle.desk.specs.Shows.{readOf, pointsOf, signOf, ShowsSign}
 use Rattle.printing.specs.Printed.{Prints}
 use Rattle.printing.proofs.Printed.{prints-as, prints-on, prints-within}
 use Rattle.replies.specs.Replies.{lineEnd, refusalLine}
-use Rattle.patterns.specs.Patterns.{rowOf, ShowsRow}
+use Rattle.patterns.specs.Patterns.{ShowsRow}
 use Rattle.patterns.proofs.Patterns.{row-is}
 use Rattle.sign_lines.specs.Signs.{signLines}
 use Rattle.sign_lines.specs.Walk.{Accepted, SignsPrinted}

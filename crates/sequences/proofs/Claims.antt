@@ -11,7 +11,6 @@ use lib.Seq.{getD-take, getD-drop}
 use Rattle.rules.proofs.Finite.{every, below, at-below, and-left, and-right, le-or-lt}
 use Rattle.sequences.specs.Forms.{Range, Form, forms, within, begin, WellFormed}
 use Rattle.sequences.specs.Claims.{StandsAt, SequencesApart, OneNext}
-use Rattle.sequences.specs.declared.Next.{Next}
 use Rattle.sequences.proofs.Fronts.{T-of}
 
 -- NO TWO OVERLAP: the ranges of later bytes, and those of first bytes

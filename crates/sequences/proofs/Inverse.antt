@@ -1,15 +1,15 @@
 -- Tables 3-6 and 3-7 are each other's inverse (specs/Claims.antt). A scalar value has a line of table 3-7 by its size; the bytes of a line give back a number of that line's range.
 -- In order: a form, byte by byte; from a scalar value to its sequence; from a sequence to its scalar value. Assumes nothing.
-use mathlib.Core.Bool.{Bool, true, false, _&&_, _||_, cond}
-use mathlib.Core.List.{List, [], _∷_, _++_}
+use mathlib.Core.Bool.{Bool, true, false, _&&_, _||_}
+use mathlib.Core.List.{List, [], _∷_}
 use mathlib.Core.Logic.{_⊎_, inl, inr, ⊎-elim}
-use mathlib.Core.Path.{_≡_, refl, sym, ap, subst, _∙_}
+use mathlib.Core.Path.{_≡_, refl, ap, _∙_}
 use Prim.Native.Nat.{ℕ, zero, suc, _+_, _-_, _*_, _/_, _%_, _≤_, _<_}
 use native.Mathlib.Omega.{arith}
-use lib.Dec.{T, leb, ltb, leb→le, le→leb}
+use lib.Dec.{T, leb, ltb, leb→le}
 use lib.ListN.{length, getD}
 use borrow.Author.Tests.{lt-ltb, le-ltb, le-leb, ltb-true, leb-true}
-use Rattle.rules.proofs.Finite.{and-left, and-right, and-both, le-or-lt}
+use Rattle.rules.proofs.Finite.{and-left, and-right, le-or-lt}
 use Rattle.sequences.specs.Forms.{Form, forms, _to_, within, begin, WellFormed, pointOf}
 use Rattle.encoding.specs.Encoding.{isScalar, bytesOf, encodedOf}
 use Rattle.sequences.specs.Claims.{EncodedWellFormed, WellFormedEncoded}

@@ -1,7 +1,6 @@
 -- The later bytes of a sequence, one by one. Between two of them it is known (`Mid`): whatever the bytes from here on give, behind the value so far, is what the
 -- whole gives. In order: the room for the bits; a byte taken; the ends. Assumes nothing.
-use mathlib.Core.Bool.{true, false, _&&_}
-use mathlib.Core.List.{List, [], _∷_}
+use mathlib.Core.List.{List, _∷_}
 use mathlib.Core.Path.{_≡_, refl, subst}
 use Prim.Native.Nat.{ℕ, zero, suc, _+_, _-_, _*_, _≤_, _<_}
 use native.Mathlib.Omega.{arith}
@@ -10,7 +9,6 @@ use lib.ListN.{length, getD, drop, drop-of-length-le}
 use lib.Seq.{drop-cons}
 use borrow.Author.Tests.{le-leb, lt-leb}
 use Rattle.rules.proofs.Finite.{and-false}
-use Rattle.sequences.specs.Forms.{begin}
 use Rattle.sequences.specs.Leads.{laterForm, roomOf, Fitting, JoinedIs}
 use Rattle.sequences.specs.declared.Joined.{Joined}
 use Rattle.sequences.specs.declared.Joined.the-variants as joins

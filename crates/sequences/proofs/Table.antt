@@ -1,6 +1,6 @@
 -- Table 3-7 by the first byte. The lines stand in the order of their first bytes, so a first byte passes over the lines before its own, and those behind
 -- its own cannot have it. In order: lines passed over; a byte of a line (`line-is`); a byte of none (`gap-is`). Assumes nothing.
-use mathlib.Core.Bool.{Bool, true, false, _&&_, cond}
+use mathlib.Core.Bool.{Bool, false, cond}
 use mathlib.Core.List.{List, [], _∷_, _++_}
 use mathlib.Core.Path.{_≡_, refl, ap, _∙_}
 use Prim.Native.Nat.{ℕ, zero, suc, _-_, _≤_, _<_}
@@ -11,7 +11,7 @@ use borrow.Author.Tests.{le-leb, lt-leb}
 use Rattle.rules.proofs.Finite.{every, and-left, and-right, and-false}
 use Rattle.sequences.specs.Forms.{Form, forms, _to_, begin, markOf}
 use Rattle.sequences.specs.Points.{lengthIn}
-use Rattle.sequences.specs.Leads.{laterForm, roomOf, Fitting, Begun}
+use Rattle.sequences.specs.Leads.{laterForm, roomOf, Begun}
 
 -- all first bytes of a line are below n; all are above n
 abbrev pub endsBelow : ℕ → Form → Bool

@@ -1,6 +1,6 @@
 -- What the functions inside promise one another: what a first byte says, what the later bytes give, the code point at a place. `next_at` has the last
 -- for its promise. Assumes nothing.
-use mathlib.Core.Bool.{Bool, true, false, cond}
+use mathlib.Core.Bool.{true, false, cond}
 use mathlib.Core.List.{List, [], _∷_}
 use mathlib.Core.Path.{_≡_}
 use Prim.Native.Nat.{ℕ, zero, suc, _+_, _-_, _≤_, _<_}

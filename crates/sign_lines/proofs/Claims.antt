@@ -1,7 +1,5 @@
 -- The claim of specs/Claims.antt: an accepted row has one text. Assumes nothing.
-use mathlib.Core.List.{List}
 use mathlib.Core.Path.{_≡_, ap}
-use Prim.Native.Nat.{ℕ}
 use Rattle.rules.specs.Cells.{Text}
 use Rattle.rules.specs.Castilian.{castilian}
 use Rattle.rules.specs.Rows.{signsOf}

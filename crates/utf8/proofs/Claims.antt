@@ -11,7 +11,7 @@ use Rattle.sequences.specs.Forms.{pointOf}
 use Rattle.sequences.specs.Points.{lengthAt, pointBy}
 use Rattle.sequences.proofs.Fronts.{sequence-length, none-empty, none-found}
 use Rattle.sequences.proofs.Inverse.{encoded-well-formed}
-use Rattle.utf8.specs.Decoding.{decodedFrom, decoded, Decoded}
+use Rattle.utf8.specs.Decoding.{decodedFrom, decoded}
 use Rattle.utf8.specs.Claims.{SequenceDecoded, OutsideDecoded, DecodedEncoded, NoMorePoints, WorkedBytes, OneDecoded}
 use Rattle.utf8.proofs.Decoding.{behind}
 

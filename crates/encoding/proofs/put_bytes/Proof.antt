@@ -1,5 +1,4 @@
 -- `put_bytes`: by how many bytes it takes, each stored behind the one before. Assumes nothing.
-use native.Mathlib.Omega.{arith}
 use Rattle.encoding.proofs.Encoding.{one-byte, two-bytes, three-bytes, four-bytes, wrote-one, wrote-two, wrote-three, wrote-four}
 use borrow.Author.Needs.{needs}
 use Rattle.encoding.proofs.put_bytes.Statement.{statement}

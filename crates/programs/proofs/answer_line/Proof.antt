@@ -1,6 +1,6 @@
 -- `answer_line`: a long line is told by `is_long`; any other is the line that the room holds, and the program's own function answers it. Assumes nothing.
 use mathlib.Core.List.{List}
-use mathlib.Core.Path.{_≡_, refl, sym, ap, subst, _∙_}
+use mathlib.Core.Path.{_≡_, sym, subst, _∙_}
 use Prim.Native.Nat.{ℕ, _≤_}
 use native.Mathlib.Omega.{arith}
 use lib.ListN.{length, take}
@@ -9,7 +9,6 @@ use borrow.Author.Tests.{ltb-false}
 use Rattle.printouts.specs.Lines.{TranscribePrints, ReadPrints}
 use Rattle.printing.proofs.Printed.{prints-within}
 use Rattle.limits.specs.declared.Program.{Program}
-use Rattle.limits.specs.Limits.{longestLine}
 use Rattle.limits.proofs.Claims.{longest-line}
 use Rattle.programs.specs.Answers.{Answered}
 use Rattle.programs.proofs.Bounds.{most-bytes}
