@@ -4,7 +4,7 @@ ghost use Prim.Native.Nat.{_+_, _%_, _≤_, _<_};
 ghost use lib.ListN.{set};
 ghost use Rattle.encoding.specs.Encoding.{isScalar, bytesOf, Encoded, Wrote};
 
-// A number that is no code point of UTF-8 is shown as this one; so is "a byte outside any well-formed sequence" (crate `utf8`).
+// A number that is no code point of UTF-8 is shown as this one; so is "a byte outside any well-formed sequence" (crate `sequences`).
 pub const REPLACEMENT: u32 = 0xfffd;
 
 // The marks of table 3-6: what stands before the bits in the first byte of a sequence of one to four bytes, and in every later one.
