@@ -124,15 +124,7 @@ fn draw_usual(text: &[u32], signs: &mut [u32], from: usize, begun: usize, counte
             n = n + entries::sign::count_of(sign);
             state = entries::then_in(entry);
         } else {
-            if state != MIXED {
-                return Reached {
-                    place: i,
-                    entry,
-                    state,
-                    cells: n,
-                };
-            }
-            if entries::class_in(entry) != CAPITAL {
+            if state != MIXED || entries::class_in(entry) != CAPITAL {
                 return Reached {
                     place: i,
                     entry,

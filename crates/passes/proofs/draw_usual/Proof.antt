@@ -5,7 +5,9 @@ use mathlib.Core.List.{List}
 use mathlib.Core.Logic.{inl, inr}
 use Prim.Native.Nat.{ℕ, _+_, _-_, _≤_, _<_}
 use native.Mathlib.Omega.{arith}
+use lib.Dec.{eqb, eqb→eq}
 use borrow.Author.Needs.{needs}
+use borrow.Author.Tests.{not-false}
 use lib.ListN.{length, getD}
 use Rattle.rules.specs.Castilian.{castilian}
 use Rattle.rules.proofs.Plain.{plainly, plainly-length, plainly-at}
@@ -116,20 +118,14 @@ add-n c =
 then-in-requires : tie.Need-then-in-requires Inv-loop μ-loop
 then-in-requires c κs = search needs
 
+class-in-requires : tie.Need-class-in-requires Inv-loop μ-loop
+class-in-requires c κs = search needs
+
 same-length : tie.Need-same-length Inv-loop μ-loop
 same-length c = search needs
 
 returns : tie.Need-returns Inv-loop μ-loop
 returns c = left (c .before .before)
-
-class-in-requires : tie.Need-class-in-requires Inv-loop μ-loop
-class-in-requires c κs = search needs
-
-same-length-2 : tie.Need-same-length-2 Inv-loop μ-loop
-same-length-2 c = search needs
-
-returns-2 : tie.Need-returns-2 Inv-loop μ-loop
-returns-2 c = left (c .before .before .before .before)
 
 sign-of-requires : tie.Need-sign-of-requires Inv-loop μ-loop
 sign-of-requires c κs = search needs
@@ -162,15 +158,15 @@ loop-again c =
           (j .1 .ensures ∙ ap signIn (entry-is u)) (j .5 ∙ j .3 .ensures ∙ ap thenIn (entry-is u)) (j .2 .ensures .0) (j .2 .ensures .1)
       | inr j ↦ subst (λ (x : ℕ). Under castilian (text l) (s .args .signs .now) (c .if1 .signs) (s .args .begun) (s .args .counted) (s .args .from) x (c .if1 .n) (l .loop .i + 1)) (sym (j .6))
           (under-capital castilian held (text l) (s .args .signs .now) (s .args .begun) (s .args .counted) (s .args .from) (l .loop .signs) (l .loop .state) (l .loop .n) (l .loop .i) (l .loop .inv)
-          (inside u) (j .4 .result) 2 (c .if1 .signs) (c .if1 .n) (j .5) (j .7) (j .1 .left) (sym (ap classIn (entry-is u)) ∙ sym (j .2 .ensures) ∙ j .3 .left)
+          (inside u) (j .4 .result) 2 (c .if1 .signs) (c .if1 .n) (j .5) (j .7) (j .1 .left) (sym (ap classIn (entry-is u)) ∙ sym (j .2 .ensures) ∙ eqb→eq (j .2 .result) 2 (rw (not-false (eqb (j .2 .result) 2) (j .3 .left)) tt))
           (j .4 .ensures ∙ ap (signBy 1) (entry-is u)) refl)
     ]
 
-same-length-3 : tie.Need-same-length-3 Inv-loop μ-loop
-same-length-3 c = search needs
+same-length-2 : tie.Need-same-length-2 Inv-loop μ-loop
+same-length-2 c = search needs
 
-returns-3 : tie.Need-returns-3 Inv-loop μ-loop
-returns-3 c =
+returns-2 : tie.Need-returns-2 Inv-loop μ-loop
+returns-2 c =
     let l = c .before in
     let s = start l in
     reached castilian held (text l) (s .args .signs .now) (s .args .begun) (s .args .counted) (s .args .from) (l .loop .signs) (l .loop .state) (l .loop .n) (l .loop .i) (l .loop .inv)
@@ -193,11 +189,9 @@ draw-usual-spec =
     count-of-requires
     add-n
     then-in-requires
+    class-in-requires
     same-length
     returns
-    class-in-requires
-    same-length-2
-    returns-2
     sign-of-requires
     mul-signs-2
     slice-write-signs-2
@@ -205,5 +199,5 @@ draw-usual-spec =
     add-i
     loop-less
     loop-again
-    same-length-3
-    returns-3)
+    same-length-2
+    returns-2)
