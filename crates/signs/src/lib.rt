@@ -447,7 +447,7 @@ pub fn owed_at(row: &[u8], at: usize, opened: usize) -> Step
     requires { ⌜ (length (now row) ≤ longestRow) × (at < length (now row)) ⌝ }
     ensures { λ r. ⌜ Quick (now (row .entry)) at owing owing opened r ⌝ }
 {
-    if cell_at(row, at) != D46 {
+    if row[at] != D46 {
         return Step::Nothing;
     }
     let letter = cells::capital_owed(cell_at(row, at + 1));

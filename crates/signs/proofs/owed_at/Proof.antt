@@ -2,10 +2,11 @@
 use mathlib.Core.Logic.{inl, inr}
 use mathlib.Core.Path.{_≡_, refl, sym, ap, _∙_}
 use Prim.Native.Nat.{ℕ, _+_}
+use native.Mathlib.Omega.{arith}
 use Rattle.rules.specs.Cells.{dots}
 use Rattle.readings.specs.Fields.{capitalIn}
 use Rattle.readings.specs.Words.{wordOf}
-use Rattle.signs.proofs.Cases.{owed-step}
+use Rattle.signs.proofs.Cases.{cell-low, owed-step}
 use borrow.Author.Needs.{needs}
 use Rattle.signs.proofs.owed_at.Statement.{statement}
 use Rattle.signs.proofs.owed_at.Tie as tie
@@ -15,8 +16,8 @@ use Rattle.signs.proofs.cell_at.Reads as cell-at-reads
 use Rattle.readings.proofs.cells.capital_owed.Reads as capital-owed-reads
 use Rattle.signs.proofs.sign.Reads as sign-reads
 
-cell-at-requires : tie.Need-cell-at-requires
-cell-at-requires c κs = search needs
+shared-slice-read-if1 : tie.Need-shared-slice-read-if1
+shared-slice-read-if1 c = search needs
 
 returns : tie.Need-returns
 returns c = inl refl
@@ -24,8 +25,8 @@ returns c = inl refl
 add-cell-at : tie.Need-add-cell-at
 add-cell-at c = search needs
 
-cell-at-requires-2 : tie.Need-cell-at-requires-2
-cell-at-requires-2 c κs = search needs
+cell-at-requires : tie.Need-cell-at-requires
+cell-at-requires c κs = search needs
 
 capital-owed-requires : tie.Need-capital-owed-requires
 capital-owed-requires c κs = search needs
@@ -44,12 +45,12 @@ unfolding dots
 returns-3 c =
     let k = c .before .before in
     let b = k .before in
-    let a = b .before .before in
-    let s = a .before .before in
+    let a = b .before in
+    let s = a .before .before .before in
     inr (
       c .sign .ensures
-          ∙ owed-step (s .args .row .now) (s .args .at) (s .args .opened) (k .capital-owed .result) (sym (a .cell-at .ensures) ∙ b .before .if1 .left)
-          (k .capital-owed .ensures ∙ ap (λ (y : ℕ). capitalIn (wordOf y)) (b .cell-at2 .ensures)) (c .before .if2 .left),
+          ∙ owed-step (s .args .row .now) (s .args .at) (s .args .opened) (k .capital-owed .result) (sym (cell-low (s .args .row .now) (s .args .at) (s .pre .1) (omega (arith, a .if1 .left))) ∙ a .if1 .left)
+          (k .capital-owed .ensures ∙ ap (λ (y : ℕ). capitalIn (wordOf y)) (b .cell-at .ensures)) (c .before .if2 .left),
       (k .capital-owed .result, s .args .at + 2, c .sign .ensures),
     )
 
@@ -57,10 +58,10 @@ pub owed-at-spec : {M : Type 1} → statement M
 owed-at-spec =
     tie.close
     (tie.spec
-    cell-at-requires
+    shared-slice-read-if1
     returns
     add-cell-at
-    cell-at-requires-2
+    cell-at-requires
     capital-owed-requires
     returns-2
     add-sign
