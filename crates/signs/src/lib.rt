@@ -163,30 +163,28 @@ fn is_digit(cell: u8) -> bool
     cells::figure_of(cell) != NO_POINT
 }
 
-// After 46: a letter is a capital, and the deed says the mode after it; 46 again and a letter begin a run of capitals; 2 makes >.
+// After 46: a letter is a capital, and the deed says the mode after it; 46 again and a letter begin a run of capitals; 2 makes >. (The capital is looked up in
+// one place, so that the compiler draws the look-up in.)
 fn capital(row: &[u8], at: usize, deed: usize, opened: usize) -> Step
     requires { ⌜ (length (now row) ≤ longestRow) × (at < length (now row)) ⌝ }
     ensures { λ r. ⌜ r ≡ stepOf at opened (capitalBy deed (cellOf (now (row .entry)) (at + 1)) (cellOf (now (row .entry)) (at + 2))) ⌝ }
 {
     let second = cell_at(row, at + 1);
-    if second == D46 {
-        let first = cells::capital_of(cell_at(row, at + 2));
-        if first == NO_POINT {
-            return Step::Nothing;
-        }
-        if deed == BEGINS_RUN {
-            return sign(first, at + 3, WHOLE1, opened);
-        }
-        return Step::Nothing;
-    }
     if second == D2 {
         if deed == OWED_CAPITAL {
             return Step::Nothing;
         }
         return sign(GREATER, at + 2, FREE, opened);
     }
-    let letter = cells::capital_of(second);
+    let letter_at = if second == D46 { at + 2 } else { at + 1 };
+    let letter = cells::capital_of(cell_at(row, letter_at));
     if letter == NO_POINT {
+        return Step::Nothing;
+    }
+    if second == D46 {
+        if deed == BEGINS_RUN {
+            return sign(letter, at + 3, WHOLE1, opened);
+        }
         return Step::Nothing;
     }
     match deed {

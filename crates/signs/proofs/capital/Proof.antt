@@ -1,6 +1,9 @@
--- `capital`: after 46, 46 again, 2, or a letter. Assumes nothing.
+-- `capital`: after 46, 2, 46 again, or a letter. The letter's place is chosen first, and its capital looked up once: where the two choices meet, the second cell
+-- says which it was. Assumes nothing.
 use mathlib.Core.Path.{_≡_, sym, ap, _∙_}
+use mathlib.Core.Logic.{⊎-elim}
 use Prim.Native.Nat.{ℕ, _+_}
+use native.Mathlib.Omega.{arith}
 use Rattle.rules.specs.Cells.{dots}
 use Rattle.readings.specs.Fields.{capitalIn, cellOf}
 use Rattle.readings.specs.Words.{wordOf}
@@ -21,48 +24,65 @@ Y s = cellOf (s .args .row .now) (s .args .at + 1)
 abbrev Z : tie.Start → ℕ
 Z s = cellOf (s .args .row .now) (s .args .at + 2)
 
--- after 46-46, once the letter is known
-abbrev R : Type 0
-R = tie.After-capital-of
+-- the second cell is known
+abbrev S : Type 0
+S = tie.After-cell-at
 
-abbrev of-run : R → tie.Start
-of-run k = k .before .before .before .before .before
+abbrev of-second : S → tie.Start
+of-second x = x .before .before
 
-again : (k : R) → Y (of-run k) ≡ dots 46
+-- it is 2, so it is not 46
+greater-is : (c : tie.Then1) → Y (of-second (c .before)) ≡ dots 2
 unfolding dots
-again k = sym (k .before .before .before .cell-at .ensures) ∙ k .before .before .if1 .taken
+greater-is c = sym (c .before .cell-at .ensures) ∙ c .if1 .taken
 
-first-is : (k : R) → k .capital-of .result ≡ capitalIn (wordOf (Z (of-run k)))
-first-is k = k .capital-of .ensures ∙ ap (λ (n : ℕ). capitalIn (wordOf n)) (k .before .cell-at2 .ensures)
-
--- no second 46
-abbrev N : Type 0
-N = tie.Else1
-
-abbrev of-one : N → tie.Start
-of-one e = e .before .before .before
-
-not-again : (e : N) → Y (of-one e) ≡ dots 46 → ⊥
+not-both : (y : ℕ) → y ≡ dots 2 → y ≡ dots 46 → ⊥
 unfolding dots
-not-again e q = e .if1 .left (e .before .cell-at .ensures ∙ q)
+not-both y a b = omega (arith, a, b)
 
--- once the letter after one 46 is known
+-- the letter is looked up
 abbrev L : Type 0
-L = tie.After-capital-of2
+L = tie.After-capital-of
+
+abbrev second : L → S
+second k = k .before .before .before .before
 
 abbrev of-letter : L → tie.Start
-of-letter k = of-one (k .before .before)
+of-letter k = of-second (second k)
 
 no-greater : (k : L) → Y (of-letter k) ≡ dots 2 → ⊥
 unfolding dots
-no-greater k q = k .before .if4 .left (k .before .before .before .cell-at .ensures ∙ q)
+no-greater k q = k .before .before .before .if1 .left (second k .cell-at .ensures ∙ q)
 
-letter-is : (k : L) → k .capital-of2 .result ≡ capitalIn (wordOf (Y (of-letter k)))
-letter-is k = k .capital-of2 .ensures ∙ ap (λ (n : ℕ). capitalIn (wordOf n)) (k .before .before .before .cell-at .ensures)
+abbrev Again : L → Type 0
+Again k = Y (of-letter k) ≡ dots 46
 
-greater-is : (k : tie.Then4) → Y (of-one (k .before)) ≡ dots 2
+-- at its place, wherever that is
+at-place : (k : L) (y : ℕ) → cellOf (of-letter k .args .row .now) (k .before .before .if3 .letter-at) ≡ y → k .capital-of .result ≡ capitalIn (wordOf y)
+at-place k y e = k .capital-of .ensures ∙ ap (λ (n : ℕ). capitalIn (wordOf n)) (k .before .cell-at2 .ensures ∙ e)
+
+-- after 46-46, and after one 46
+meets : (k : L) → (A : Type 0) → (Again k → k .capital-of .result ≡ capitalIn (wordOf (Z (of-letter k))) → A)
+    → ((Again k → ⊥) → k .capital-of .result ≡ capitalIn (wordOf (Y (of-letter k))) → A) → A
 unfolding dots
-greater-is k = sym (k .before .before .cell-at .ensures) ∙ k .if4 .taken
+meets k A far near =
+    let cell = cellOf (of-letter k .args .row .now) in
+    ⊎-elim (λ j. far (sym (second k .cell-at .ensures) ∙ j .0 .taken) (at-place k (Z (of-letter k)) (ap cell (j .1))))
+    (λ j. near (λ q. j .0 .left (second k .cell-at .ensures ∙ q)) (at-place k (Y (of-letter k)) (ap cell (j .1)))) (k .before .before .if3 .came)
+
+first-is : (k : L) → Again k → k .capital-of .result ≡ capitalIn (wordOf (Z (of-letter k)))
+first-is k a = meets k _ (λ b e. e) (λ n e. absurd (n a))
+
+letter-is : (k : L) → (Again k → ⊥) → k .capital-of .result ≡ capitalIn (wordOf (Y (of-letter k)))
+letter-is k n = meets k _ (λ a e. absurd (n a)) (λ m e. e)
+
+again : (c : tie.Then5) → Again (c .before .before)
+unfolding dots
+again c = sym (second (c .before .before) .cell-at .ensures) ∙ c .if5 .taken
+
+not-again : (c : tie.Else5) → Again (c .before .before) → ⊥
+unfolding dots
+not-again c q = c .if5 .left (second (c .before .before) .cell-at .ensures ∙ q)
 
 add-cell-at : tie.Need-add-cell-at
 add-cell-at c = search needs
@@ -70,20 +90,11 @@ add-cell-at c = search needs
 cell-at-requires : tie.Need-cell-at-requires
 cell-at-requires c κs = search needs
 
-add-cell-at-2 : tie.Need-add-cell-at-2
-add-cell-at-2 c = search needs
-
-cell-at-requires-2 : tie.Need-cell-at-requires-2
-cell-at-requires-2 c κs = search needs
-
-capital-of-requires : tie.Need-capital-of-requires
-capital-of-requires c κs = search needs
-
 returns : tie.Need-returns
 returns c =
-    let k = c .before in
-    let s = of-run k in
-    run-none (s .args .at) (s .args .opened) (s .args .deed) (Y s) (Z s) (again k) (k .capital-of .result) (first-is k) (c .if2 .taken)
+    let s = of-second (c .before .before) in
+    let e = greater-is (c .before) in
+    greater-owed (s .args .at) (s .args .opened) (s .args .deed) (Y s) (Z s) (not-both (Y s) e) e (c .if2 .taken)
 
 add-sign : tie.Need-add-sign
 add-sign c = search needs
@@ -93,22 +104,29 @@ sign-requires c κs = search needs
 
 returns-2 : tie.Need-returns-2
 returns-2 c =
-    let k = c .before .before .before in
-    let s = of-run k in
+    let s = of-second (c .before .before .before) in
+    let e = greater-is (c .before .before) in
     c .sign .ensures
-    ∙ run-first (s .args .at) (s .args .opened) (s .args .deed) (Y s) (Z s) (again k) (k .capital-of .result) (first-is k) (c .before .before .if2 .left) (c .before .if3 .taken)
+    ∙ greater (s .args .at) (s .args .opened) (s .args .deed) (Y s) (Z s) (not-both (Y s) e) e (c .before .if2 .left)
+
+add-letter-at : tie.Need-add-letter-at
+add-letter-at c = search needs
+
+add-letter-at-2 : tie.Need-add-letter-at-2
+add-letter-at-2 c = search needs
+
+cell-at-requires-2 : tie.Need-cell-at-requires-2
+cell-at-requires-2 c κs = search needs
+
+capital-of-requires : tie.Need-capital-of-requires
+capital-of-requires c κs = search needs
 
 returns-3 : tie.Need-returns-3
 returns-3 c =
-    let k = c .before .before in
-    let s = of-run k in
-    run-barred (s .args .at) (s .args .opened) (s .args .deed) (Y s) (Z s) (again k) (k .capital-of .result) (first-is k) (c .before .if2 .left) (c .if3 .left)
-
-returns-4 : tie.Need-returns-4
-returns-4 c =
-    let e = c .before .before in
-    let s = of-one e in
-    greater-owed (s .args .at) (s .args .opened) (s .args .deed) (Y s) (Z s) (not-again e) (greater-is (c .before)) (c .if5 .taken)
+    let k = c .before in
+    let s = of-letter k in
+    meets k _ (λ a e. run-none (s .args .at) (s .args .opened) (s .args .deed) (Y s) (Z s) a (k .capital-of .result) e (c .if4 .taken))
+    (λ n e. letter-none (s .args .at) (s .args .opened) (s .args .deed) (Y s) (Z s) n (no-greater k) (k .capital-of .result) e (c .if4 .taken))
 
 add-sign-2 : tie.Need-add-sign-2
 add-sign-2 c = search needs
@@ -116,21 +134,20 @@ add-sign-2 c = search needs
 sign-requires-2 : tie.Need-sign-requires-2
 sign-requires-2 c κs = search needs
 
+returns-4 : tie.Need-returns-4
+returns-4 c =
+    let a = c .before .before in
+    let k = a .before .before in
+    let s = of-letter k in
+    c .sign2 .ensures
+    ∙ run-first (s .args .at) (s .args .opened) (s .args .deed) (Y s) (Z s) (again a) (k .capital-of .result) (first-is k (again a)) (a .before .if4 .left) (c .before .if6 .taken)
+
 returns-5 : tie.Need-returns-5
 returns-5 c =
-    let e = c .before .before .before in
-    let s = of-one e in
-    c .sign2 .ensures
-    ∙ greater (s .args .at) (s .args .opened) (s .args .deed) (Y s) (Z s) (not-again e) (greater-is (c .before .before)) (c .before .if5 .left)
-
-capital-of-requires-2 : tie.Need-capital-of-requires-2
-capital-of-requires-2 c κs = search needs
-
-returns-6 : tie.Need-returns-6
-returns-6 c =
-    let k = c .before in
+    let a = c .before in
+    let k = a .before .before in
     let s = of-letter k in
-    letter-none (s .args .at) (s .args .opened) (s .args .deed) (Y s) (Z s) (not-again (k .before .before)) (no-greater k) (k .capital-of2 .result) (letter-is k) (c .if6 .taken)
+    run-barred (s .args .at) (s .args .opened) (s .args .deed) (Y s) (Z s) (again a) (k .capital-of .result) (first-is k (again a)) (a .before .if4 .left) (c .if6 .left)
 
 add-sign-3 : tie.Need-add-sign-3
 add-sign-3 c = search needs
@@ -150,32 +167,36 @@ add-sign-5 c = search needs
 sign-requires-5 : tie.Need-sign-requires-5
 sign-requires-5 c κs = search needs
 
-returns-7 : tie.Need-returns-7
-returns-7 c =
-    let k = c .before .before .before in
+returns-6 : tie.Need-returns-6
+returns-6 c =
+    let a = c .before .before in
+    let k = a .before .before in
     let s = of-letter k in
     c .sign3 .ensures
-    ∙ letter-begins (s .args .at) (s .args .opened) (s .args .deed) (Y s) (Z s) (not-again (k .before .before)) (no-greater k) (k .capital-of2 .result) (letter-is k) (c .before .before .if6 .left) (c .before .match .keys1)
+    ∙ letter-begins (s .args .at) (s .args .opened) (s .args .deed) (Y s) (Z s) (not-again a) (no-greater k) (k .capital-of .result) (letter-is k (not-again a)) (a .before .if4 .left) (c .before .match .keys1)
+
+returns-7 : tie.Need-returns-7
+returns-7 c =
+    let a = c .before .before in
+    let k = a .before .before in
+    let s = of-letter k in
+    c .sign4 .ensures
+    ∙ letter-mixed (s .args .at) (s .args .opened) (s .args .deed) (Y s) (Z s) (not-again a) (no-greater k) (k .capital-of .result) (letter-is k (not-again a)) (a .before .if4 .left) (c .before .match .keys2)
 
 returns-8 : tie.Need-returns-8
 returns-8 c =
-    let k = c .before .before .before in
+    let a = c .before in
+    let k = a .before .before in
     let s = of-letter k in
-    c .sign4 .ensures
-    ∙ letter-mixed (s .args .at) (s .args .opened) (s .args .deed) (Y s) (Z s) (not-again (k .before .before)) (no-greater k) (k .capital-of2 .result) (letter-is k) (c .before .before .if6 .left) (c .before .match .keys2)
+    letter-barred (s .args .at) (s .args .opened) (s .args .deed) (Y s) (Z s) (not-again a) (no-greater k) (k .capital-of .result) (letter-is k (not-again a)) (a .before .if4 .left) (c .match .keys3)
 
 returns-9 : tie.Need-returns-9
 returns-9 c =
-    let k = c .before .before in
-    let s = of-letter k in
-    letter-barred (s .args .at) (s .args .opened) (s .args .deed) (Y s) (Z s) (not-again (k .before .before)) (no-greater k) (k .capital-of2 .result) (letter-is k) (c .before .if6 .left) (c .match .keys3)
-
-returns-10 : tie.Need-returns-10
-returns-10 c =
-    let k = c .before .before .before in
+    let a = c .before .before in
+    let k = a .before .before in
     let s = of-letter k in
     c .sign5 .ensures
-    ∙ letter-owes (s .args .at) (s .args .opened) (s .args .deed) (Y s) (Z s) (not-again (k .before .before)) (no-greater k) (k .capital-of2 .result) (letter-is k) (c .before .before .if6 .left) (c .before .match .rest)
+    ∙ letter-owes (s .args .at) (s .args .opened) (s .args .deed) (Y s) (Z s) (not-again a) (no-greater k) (k .capital-of .result) (letter-is k (not-again a)) (a .before .if4 .left) (c .before .match .rest)
 
 pub capital-spec : {M : Type 1} → statement M
 capital-spec =
@@ -183,27 +204,26 @@ capital-spec =
     (tie.spec
     add-cell-at
     cell-at-requires
-    add-cell-at-2
-    cell-at-requires-2
-    capital-of-requires
     returns
     add-sign
     sign-requires
     returns-2
+    add-letter-at
+    add-letter-at-2
+    cell-at-requires-2
+    capital-of-requires
     returns-3
-    returns-4
     add-sign-2
     sign-requires-2
+    returns-4
     returns-5
-    capital-of-requires-2
-    returns-6
     add-sign-3
     sign-requires-3
     add-sign-4
     sign-requires-4
     add-sign-5
     sign-requires-5
+    returns-6
     returns-7
     returns-8
-    returns-9
-    returns-10)
+    returns-9)
