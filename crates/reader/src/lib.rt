@@ -43,6 +43,10 @@ pub const LONGEST_ROW: usize = 12288;
 pub const LONGEST_TEXT: usize = 4096;
 
 // Rows that are read by way of a shorter draft: a row has at most two code points for each cell.
+const WORD_ROW: usize = 16;
+
+const WORD_DRAFT: usize = 32;
+
 const SHORT_ROW: usize = 64;
 
 const SHORT_DRAFT: usize = 128;
@@ -170,6 +174,10 @@ pub fn read(row: &[u8], text: &mut [u32]) -> Answer
 {
     if LONGEST_ROW < row.len() {
         return Answer::TooLong(reported_length(row.len()));
+    }
+    if row.len() <= WORD_ROW {
+        let mut draft = [NO_POINT; WORD_DRAFT];
+        return read_by(row, &mut draft, text);
     }
     if row.len() <= SHORT_ROW {
         let mut draft = [NO_POINT; SHORT_DRAFT];

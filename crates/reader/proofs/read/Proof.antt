@@ -54,16 +54,6 @@ same-length-2 c = search needs
 returns-3 : tie.Need-returns-3
 returns-3 c = search needs
 
--- a longer one
-first-high-requires : tie.Need-first-high-requires
-first-high-requires c κs = search needs
-
-returns-4 : tie.Need-returns-4
-returns-4 c =
-    let f = c .before in
-    let s = f .before .before .before .before .before .before in
-    read-refused (row s) _ (row-not-cells (row s) (omega arith) _ (f .first-high .ensures) (c .if4 .taken)) (lent s) (lent s) refl
-
 slice-aggregate-read-by-3 : tie.Need-slice-aggregate-read-by-3
 slice-aggregate-read-by-3 c = search needs
 
@@ -73,20 +63,42 @@ read-by-requires-3 c κs = (omega arith, inl (omega arith))
 same-length-3 : tie.Need-same-length-3
 same-length-3 c = search needs
 
+returns-4 : tie.Need-returns-4
+returns-4 c = search needs
+
+-- a longer one
+first-high-requires : tie.Need-first-high-requires
+first-high-requires c κs = search needs
+
 returns-5 : tie.Need-returns-5
-returns-5 c = search needs
+returns-5 c =
+    let f = c .before in
+    let s = f .before .before .before .before .before .before .before in
+    read-refused (row s) _ (row-not-cells (row s) (omega arith) _ (f .first-high .ensures) (c .if5 .taken)) (lent s) (lent s) refl
 
 slice-aggregate-read-by-4 : tie.Need-slice-aggregate-read-by-4
 slice-aggregate-read-by-4 c = search needs
 
 read-by-requires-4 : tie.Need-read-by-requires-4
-read-by-requires-4 c κs = (omega arith, inr (omega arith))
+read-by-requires-4 c κs = (omega arith, inl (omega arith))
 
 same-length-4 : tie.Need-same-length-4
 same-length-4 c = search needs
 
 returns-6 : tie.Need-returns-6
 returns-6 c = search needs
+
+slice-aggregate-read-by-5 : tie.Need-slice-aggregate-read-by-5
+slice-aggregate-read-by-5 c = search needs
+
+read-by-requires-5 : tie.Need-read-by-requires-5
+read-by-requires-5 c κs = (omega arith, inr (omega arith))
+
+same-length-5 : tie.Need-same-length-5
+same-length-5 c = search needs
+
+returns-7 : tie.Need-returns-7
+returns-7 c = search needs
 
 pub read-spec : {M : Type 1} → statement M
 read-spec =
@@ -102,13 +114,17 @@ read-spec =
     read-by-requires-2
     same-length-2
     returns-3
-    first-high-requires
-    returns-4
     slice-aggregate-read-by-3
     read-by-requires-3
     same-length-3
+    returns-4
+    first-high-requires
     returns-5
     slice-aggregate-read-by-4
     read-by-requires-4
     same-length-4
-    returns-6)
+    returns-6
+    slice-aggregate-read-by-5
+    read-by-requires-5
+    same-length-5
+    returns-7)
