@@ -11,34 +11,34 @@ deeds =
     noSign ∷ asUsual ∷ asUsual ∷ asUsual ∷ asUsual ∷ asUsual ∷ asUsual ∷ asUsual ∷ asUsual ∷ noSign ∷ asUsual ∷ hyphenOrDash ∷ beginsRun ∷ numberSign ∷ prefixed ∷ prefixed
     -- lone
     ∷ noSign ∷ asUsual ∷ asUsual ∷ asUsual ∷ asUsual ∷ asUsual ∷ asUsual ∷ asUsual ∷ asUsual ∷ noSign ∷ asUsual ∷ hyphenOrDash ∷ secondCapital ∷ numberSign ∷ prefixed ∷ prefixed
-    -- owing
-    ∷ noSign ∷ asUsual ∷ asUsual ∷ asUsual ∷ asUsual ∷ noSign ∷ noSign ∷ noSign ∷ noSign ∷ noSign ∷ noSign ∷ noSign ∷ owedCapital ∷ noSign ∷ noSign ∷ noSign
     -- mixed
     ∷ noSign ∷ asUsual ∷ asUsual ∷ asUsual ∷ asUsual ∷ asUsual ∷ asUsual ∷ asUsual ∷ asUsual ∷ noSign ∷ asUsual ∷ hyphenOrDash ∷ runGoesOn ∷ numberSign ∷ prefixed ∷ prefixed
     -- whole1
     ∷ noSign ∷ capitalOfMany ∷ capitalOfMany ∷ capitalOfMany ∷ capitalOfMany ∷ noSign ∷ noSign ∷ noSign ∷ noSign ∷ noSign ∷ noSign ∷ noSign ∷ noSign ∷ noSign ∷ noSign ∷ noSign
+    -- under1
+    ∷ noSign ∷ digitUnder ∷ digitUnder ∷ noSign ∷ noSign ∷ noSign ∷ noSign ∷ noSign ∷ noSign ∷ noSign ∷ noSign ∷ noSign ∷ noSign ∷ noSign ∷ noSign ∷ noSign
+    -- end
+    ∷ noSign ∷ noSign ∷ noSign ∷ asUsual ∷ asUsual ∷ asUsual ∷ asUsual ∷ asUsual ∷ asUsual ∷ noSign ∷ asUsual ∷ hyphenOrDash ∷ beginsRun ∷ noSign ∷ prefixed ∷ prefixed
+    -- hyphen
+    ∷ noSign ∷ asUsual ∷ asUsual ∷ asUsual ∷ asUsual ∷ asUsual ∷ asUsual ∷ asUsual ∷ asUsual ∷ noSign ∷ asUsual ∷ noSign ∷ beginsRun ∷ numberSign ∷ prefixed ∷ prefixed
+    -- fem
+    ∷ noSign ∷ noSign ∷ noSign ∷ asUsual ∷ asUsual ∷ asUsual ∷ asUsual ∷ asUsual ∷ asUsual ∷ noSign ∷ asUsual ∷ hyphenOrDash ∷ beginsRun ∷ numberSign ∷ prefixed ∷ prefixed
+    -- percent
+    ∷ noSign ∷ asUsual ∷ asUsual ∷ asUsual ∷ asUsual ∷ asUsual ∷ asUsual ∷ asUsual ∷ asUsual ∷ noSign ∷ asUsual ∷ hyphenOrDash ∷ beginsRun ∷ numberSign ∷ prefixed ∷ prefixed
+    -- owing
+    ∷ noSign ∷ asUsual ∷ asUsual ∷ asUsual ∷ asUsual ∷ noSign ∷ noSign ∷ noSign ∷ noSign ∷ noSign ∷ noSign ∷ noSign ∷ owedCapital ∷ noSign ∷ noSign ∷ noSign
+    -- dash
+    ∷ noSign ∷ asUsual ∷ asUsual ∷ asUsual ∷ asUsual ∷ asUsual ∷ asUsual ∷ asUsual ∷ asUsual ∷ noSign ∷ asUsual ∷ dashOnly ∷ beginsRun ∷ numberSign ∷ prefixed ∷ prefixed
     -- whole2
     ∷ noSign ∷ capitalOfMany ∷ capitalOfMany ∷ capitalOfMany ∷ capitalOfMany ∷ asUsual ∷ asUsual ∷ asUsual ∷ asUsual ∷ noSign ∷ asUsual ∷ hyphenOrDash ∷ greaterOnly ∷ numberSign ∷ prefixed ∷ prefixed
     -- num
     ∷ noSign ∷ digit ∷ digit ∷ asUsual ∷ asUsual ∷ point ∷ point ∷ asUsual ∷ asUsual ∷ noSign ∷ asUsual ∷ hyphenOrDash ∷ beginsRun ∷ noSign ∷ separates ∷ prefixed
     -- low
     ∷ noSign ∷ oneOrFeminine ∷ denominator ∷ masculineMark ∷ noSign ∷ noSign ∷ lowerDigit ∷ lowerDigit ∷ lowerDigit ∷ lowerDigit ∷ noSign ∷ noSign ∷ noSign ∷ noSign ∷ noSign ∷ noSign
-    -- under1
-    ∷ noSign ∷ digitUnder ∷ digitUnder ∷ noSign ∷ noSign ∷ noSign ∷ noSign ∷ noSign ∷ noSign ∷ noSign ∷ noSign ∷ noSign ∷ noSign ∷ noSign ∷ noSign ∷ noSign
     -- under
     ∷ noSign ∷ digitUnder ∷ digitUnder ∷ asUsual ∷ asUsual ∷ asUsual ∷ asUsual ∷ asUsual ∷ asUsual ∷ noSign ∷ asUsual ∷ hyphenOrDash ∷ beginsRun ∷ noSign ∷ separates ∷ prefixed
     -- mid
     ∷ noSign ∷ digit ∷ digit ∷ noSign ∷ noSign ∷ noSign ∷ noSign ∷ noSign ∷ noSign ∷ noSign ∷ noSign ∷ noSign ∷ noSign ∷ noSign ∷ noSign ∷ noSign
-    -- end
-    ∷ noSign ∷ noSign ∷ noSign ∷ asUsual ∷ asUsual ∷ asUsual ∷ asUsual ∷ asUsual ∷ asUsual ∷ noSign ∷ asUsual ∷ hyphenOrDash ∷ beginsRun ∷ noSign ∷ prefixed ∷ prefixed
-    -- hyphen
-    ∷ noSign ∷ asUsual ∷ asUsual ∷ asUsual ∷ asUsual ∷ asUsual ∷ asUsual ∷ asUsual ∷ asUsual ∷ noSign ∷ asUsual ∷ noSign ∷ beginsRun ∷ numberSign ∷ prefixed ∷ prefixed
-    -- dash
-    ∷ noSign ∷ asUsual ∷ asUsual ∷ asUsual ∷ asUsual ∷ asUsual ∷ asUsual ∷ asUsual ∷ asUsual ∷ noSign ∷ asUsual ∷ dashOnly ∷ beginsRun ∷ numberSign ∷ prefixed ∷ prefixed
-    -- fem
-    ∷ noSign ∷ noSign ∷ noSign ∷ asUsual ∷ asUsual ∷ asUsual ∷ asUsual ∷ asUsual ∷ asUsual ∷ noSign ∷ asUsual ∷ hyphenOrDash ∷ beginsRun ∷ numberSign ∷ prefixed ∷ prefixed
-    -- percent
-    ∷ noSign ∷ asUsual ∷ asUsual ∷ asUsual ∷ asUsual ∷ asUsual ∷ asUsual ∷ asUsual ∷ asUsual ∷ noSign ∷ asUsual ∷ hyphenOrDash ∷ beginsRun ∷ numberSign ∷ prefixed ∷ prefixed
     ∷ []
 
 -- how many there are

@@ -18,44 +18,44 @@ free = 0
 abbrev pub lone : ℕ
 lone = 1
 
-abbrev pub owing : ℕ
-owing = 2
-
 abbrev pub mixed : ℕ
-mixed = 3
+mixed = 2
 
 abbrev pub whole1 : ℕ
-whole1 = 4
-
-abbrev pub whole2 : ℕ
-whole2 = 5
-
-abbrev pub num : ℕ
-num = 6
-
-abbrev pub low : ℕ
-low = 7
+whole1 = 3
 
 abbrev pub under1 : ℕ
-under1 = 8
-
-abbrev pub under : ℕ
-under = 9
-
-abbrev pub mid : ℕ
-mid = 10
+under1 = 4
 
 abbrev pub end : ℕ
-end = 11
+end = 5
 
 abbrev pub hyphen : ℕ
-hyphen = 12
-
-abbrev pub dash : ℕ
-dash = 13
+hyphen = 6
 
 abbrev pub fem : ℕ
-fem = 14
+fem = 7
 
 abbrev pub percent : ℕ
-percent = 15
+percent = 8
+
+abbrev pub owing : ℕ
+owing = 9
+
+abbrev pub dash : ℕ
+dash = 10
+
+abbrev pub whole2 : ℕ
+whole2 = 11
+
+abbrev pub num : ℕ
+num = 12
+
+abbrev pub low : ℕ
+low = 13
+
+abbrev pub under : ℕ
+under = 14
+
+abbrev pub mid : ℕ
+mid = 15

@@ -6,54 +6,54 @@ use mathlib.Core.List.{List, [], _∷_}
 use lib.ListN.{getD}
 use Rattle.rules.specs.Cells.{dots}
 use Rattle.entries.specs.Chosen.{choose}
-use Rattle.readings.specs.Modes.{free, lone, owing, mixed, whole2, num, under, end, hyphen, dash, fem, percent}
+use Rattle.readings.specs.Modes.{free, lone, mixed, end, hyphen, fem, percent, owing, dash, whole2, num, under}
 use Rattle.readings.specs.Fields.{bToJ, capitalSign, comma, figureSign, letterA, letterO, line, lowOnly, markOrLow, nothing, otherLetter, prefix, separator, sign, signOrLow, stop, usualAt, pointAt, capitalAt, figureAt, lowerAt, kindAt, classAt, thenAt}
 
 -- WHAT A CLASS IS: its number, the mode after it where it is read as usual, and the modes in which it is
 abbrev asLetterA : ℕ
 asLetterA =
     classAt * letterA + thenAt * mixed
-    + usualAt * (2 ^ free + 2 ^ lone + 2 ^ owing + 2 ^ mixed + 2 ^ hyphen + 2 ^ dash + 2 ^ percent)
+    + usualAt * (2 ^ free + 2 ^ lone + 2 ^ mixed + 2 ^ hyphen + 2 ^ percent + 2 ^ owing + 2 ^ dash)
 
 abbrev asBToJ : ℕ
 asBToJ =
     classAt * bToJ + thenAt * mixed
-    + usualAt * (2 ^ free + 2 ^ lone + 2 ^ owing + 2 ^ mixed + 2 ^ hyphen + 2 ^ dash + 2 ^ percent)
+    + usualAt * (2 ^ free + 2 ^ lone + 2 ^ mixed + 2 ^ hyphen + 2 ^ percent + 2 ^ owing + 2 ^ dash)
 
 abbrev asLetterO : ℕ
 asLetterO =
     classAt * letterO + thenAt * mixed
-    + usualAt * (2 ^ free + 2 ^ lone + 2 ^ owing + 2 ^ mixed + 2 ^ num + 2 ^ under + 2 ^ end + 2 ^ hyphen + 2 ^ dash + 2 ^ fem + 2 ^ percent)
+    + usualAt * (2 ^ free + 2 ^ lone + 2 ^ mixed + 2 ^ end + 2 ^ hyphen + 2 ^ fem + 2 ^ percent + 2 ^ owing + 2 ^ dash + 2 ^ num + 2 ^ under)
 
 abbrev asOtherLetter : ℕ
 asOtherLetter =
     classAt * otherLetter + thenAt * mixed
-    + usualAt * (2 ^ free + 2 ^ lone + 2 ^ owing + 2 ^ mixed + 2 ^ num + 2 ^ under + 2 ^ end + 2 ^ hyphen + 2 ^ dash + 2 ^ fem + 2 ^ percent)
+    + usualAt * (2 ^ free + 2 ^ lone + 2 ^ mixed + 2 ^ end + 2 ^ hyphen + 2 ^ fem + 2 ^ percent + 2 ^ owing + 2 ^ dash + 2 ^ num + 2 ^ under)
 
 abbrev asStop : ℕ
 asStop =
     classAt * stop + thenAt * free
-    + usualAt * (2 ^ free + 2 ^ lone + 2 ^ mixed + 2 ^ whole2 + 2 ^ under + 2 ^ end + 2 ^ hyphen + 2 ^ dash + 2 ^ fem + 2 ^ percent)
+    + usualAt * (2 ^ free + 2 ^ lone + 2 ^ mixed + 2 ^ end + 2 ^ hyphen + 2 ^ fem + 2 ^ percent + 2 ^ dash + 2 ^ whole2 + 2 ^ under)
 
 abbrev asComma : ℕ
 asComma =
     classAt * comma + thenAt * free
-    + usualAt * (2 ^ free + 2 ^ lone + 2 ^ mixed + 2 ^ whole2 + 2 ^ under + 2 ^ end + 2 ^ hyphen + 2 ^ dash + 2 ^ fem + 2 ^ percent)
+    + usualAt * (2 ^ free + 2 ^ lone + 2 ^ mixed + 2 ^ end + 2 ^ hyphen + 2 ^ fem + 2 ^ percent + 2 ^ dash + 2 ^ whole2 + 2 ^ under)
 
 abbrev asSignOrLow : ℕ
 asSignOrLow =
     classAt * signOrLow + thenAt * free
-    + usualAt * (2 ^ free + 2 ^ lone + 2 ^ mixed + 2 ^ whole2 + 2 ^ num + 2 ^ under + 2 ^ end + 2 ^ hyphen + 2 ^ dash + 2 ^ fem + 2 ^ percent)
+    + usualAt * (2 ^ free + 2 ^ lone + 2 ^ mixed + 2 ^ end + 2 ^ hyphen + 2 ^ fem + 2 ^ percent + 2 ^ dash + 2 ^ whole2 + 2 ^ num + 2 ^ under)
 
 abbrev asMarkOrLow : ℕ
 asMarkOrLow =
     classAt * markOrLow + thenAt * free
-    + usualAt * (2 ^ free + 2 ^ lone + 2 ^ mixed + 2 ^ whole2 + 2 ^ num + 2 ^ under + 2 ^ end + 2 ^ hyphen + 2 ^ dash + 2 ^ fem + 2 ^ percent)
+    + usualAt * (2 ^ free + 2 ^ lone + 2 ^ mixed + 2 ^ end + 2 ^ hyphen + 2 ^ fem + 2 ^ percent + 2 ^ dash + 2 ^ whole2 + 2 ^ num + 2 ^ under)
 
 abbrev asSign : ℕ
 asSign =
     classAt * sign + thenAt * free
-    + usualAt * (2 ^ free + 2 ^ lone + 2 ^ mixed + 2 ^ whole2 + 2 ^ num + 2 ^ under + 2 ^ end + 2 ^ hyphen + 2 ^ dash + 2 ^ fem + 2 ^ percent)
+    + usualAt * (2 ^ free + 2 ^ lone + 2 ^ mixed + 2 ^ end + 2 ^ hyphen + 2 ^ fem + 2 ^ percent + 2 ^ dash + 2 ^ whole2 + 2 ^ num + 2 ^ under)
 
 -- THE WORDS, in the order of the cells
 unfoldable pub words : List ℕ

@@ -179,9 +179,19 @@ const IN_FREE: u64 = USUAL_AT << FREE;
 
 const IN_LONE: u64 = USUAL_AT << LONE;
 
+const IN_MIXED: u64 = USUAL_AT << MIXED;
+
+const IN_END: u64 = USUAL_AT << END;
+
+const IN_HYPHEN: u64 = USUAL_AT << HYPHEN;
+
+const IN_FEM: u64 = USUAL_AT << FEM;
+
+const IN_PERCENT: u64 = USUAL_AT << PERCENT;
+
 const IN_OWING: u64 = USUAL_AT << OWING;
 
-const IN_MIXED: u64 = USUAL_AT << MIXED;
+const IN_DASH: u64 = USUAL_AT << DASH;
 
 const IN_WHOLE2: u64 = USUAL_AT << WHOLE2;
 
@@ -189,132 +199,122 @@ const IN_NUM: u64 = USUAL_AT << NUM;
 
 const IN_UNDER: u64 = USUAL_AT << UNDER;
 
-const IN_END: u64 = USUAL_AT << END;
-
-const IN_HYPHEN: u64 = USUAL_AT << HYPHEN;
-
-const IN_DASH: u64 = USUAL_AT << DASH;
-
-const IN_FEM: u64 = USUAL_AT << FEM;
-
-const IN_PERCENT: u64 = USUAL_AT << PERCENT;
-
 // What a class is: its number, the modes in which it is read as usual, and the mode after it then.
 const AS_LETTER_A: u64 = CLASS_AT * LETTER_A
     + THEN_AT * MIXED as u64
     + IN_FREE
     + IN_LONE
-    + IN_OWING
     + IN_MIXED
     + IN_HYPHEN
-    + IN_DASH
-    + IN_PERCENT;
+    + IN_PERCENT
+    + IN_OWING
+    + IN_DASH;
 
 const AS_B_TO_J: u64 = CLASS_AT * B_TO_J
     + THEN_AT * MIXED as u64
     + IN_FREE
     + IN_LONE
-    + IN_OWING
     + IN_MIXED
     + IN_HYPHEN
-    + IN_DASH
-    + IN_PERCENT;
+    + IN_PERCENT
+    + IN_OWING
+    + IN_DASH;
 
 const AS_LETTER_O: u64 = CLASS_AT * LETTER_O
     + THEN_AT * MIXED as u64
     + IN_FREE
     + IN_LONE
-    + IN_OWING
     + IN_MIXED
-    + IN_NUM
-    + IN_UNDER
     + IN_END
     + IN_HYPHEN
-    + IN_DASH
     + IN_FEM
-    + IN_PERCENT;
+    + IN_PERCENT
+    + IN_OWING
+    + IN_DASH
+    + IN_NUM
+    + IN_UNDER;
 
 const AS_OTHER_LETTER: u64 = CLASS_AT * OTHER_LETTER
     + THEN_AT * MIXED as u64
     + IN_FREE
     + IN_LONE
-    + IN_OWING
     + IN_MIXED
-    + IN_NUM
-    + IN_UNDER
     + IN_END
     + IN_HYPHEN
-    + IN_DASH
     + IN_FEM
-    + IN_PERCENT;
+    + IN_PERCENT
+    + IN_OWING
+    + IN_DASH
+    + IN_NUM
+    + IN_UNDER;
 
 const AS_STOP: u64 = CLASS_AT * STOP
     + THEN_AT * FREE as u64
     + IN_FREE
     + IN_LONE
     + IN_MIXED
-    + IN_WHOLE2
-    + IN_UNDER
     + IN_END
     + IN_HYPHEN
-    + IN_DASH
     + IN_FEM
-    + IN_PERCENT;
+    + IN_PERCENT
+    + IN_DASH
+    + IN_WHOLE2
+    + IN_UNDER;
 
 const AS_COMMA: u64 = CLASS_AT * COMMA
     + THEN_AT * FREE as u64
     + IN_FREE
     + IN_LONE
     + IN_MIXED
-    + IN_WHOLE2
-    + IN_UNDER
     + IN_END
     + IN_HYPHEN
-    + IN_DASH
     + IN_FEM
-    + IN_PERCENT;
+    + IN_PERCENT
+    + IN_DASH
+    + IN_WHOLE2
+    + IN_UNDER;
 
 const AS_SIGN_OR_LOW: u64 = CLASS_AT * SIGN_OR_LOW
     + THEN_AT * FREE as u64
     + IN_FREE
     + IN_LONE
     + IN_MIXED
-    + IN_WHOLE2
-    + IN_NUM
-    + IN_UNDER
     + IN_END
     + IN_HYPHEN
-    + IN_DASH
     + IN_FEM
-    + IN_PERCENT;
+    + IN_PERCENT
+    + IN_DASH
+    + IN_WHOLE2
+    + IN_NUM
+    + IN_UNDER;
 
 const AS_MARK_OR_LOW: u64 = CLASS_AT * MARK_OR_LOW
     + THEN_AT * FREE as u64
     + IN_FREE
     + IN_LONE
     + IN_MIXED
-    + IN_WHOLE2
-    + IN_NUM
-    + IN_UNDER
     + IN_END
     + IN_HYPHEN
-    + IN_DASH
     + IN_FEM
-    + IN_PERCENT;
+    + IN_PERCENT
+    + IN_DASH
+    + IN_WHOLE2
+    + IN_NUM
+    + IN_UNDER;
 
 const AS_SIGN: u64 = CLASS_AT * SIGN
     + THEN_AT * FREE as u64
     + IN_FREE
     + IN_LONE
     + IN_MIXED
-    + IN_WHOLE2
-    + IN_NUM
-    + IN_UNDER
     + IN_END
     + IN_HYPHEN
-    + IN_DASH
     + IN_FEM
-    + IN_PERCENT;
+    + IN_PERCENT
+    + IN_DASH
+    + IN_WHOLE2
+    + IN_NUM
+    + IN_UNDER;
 
 // The words.
 const W0: u64 = AS_SIGN + POINT_AT * 0x20; // space

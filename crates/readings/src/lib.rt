@@ -27,33 +27,36 @@ pub const FREE: usize = 0;
 
 pub const LONE: usize = 1;
 
-pub const OWING: usize = 2;
+pub const MIXED: usize = 2;
 
-pub const MIXED: usize = 3;
+pub const WHOLE1: usize = 3;
 
-pub const WHOLE1: usize = 4;
+pub const UNDER1: usize = 4;
 
-pub const WHOLE2: usize = 5;
+pub const END: usize = 5;
 
-pub const NUM: usize = 6;
+pub const HYPHEN: usize = 6;
 
-pub const LOW: usize = 7;
+pub const FEM: usize = 7;
 
-pub const UNDER1: usize = 8;
+pub const PERCENT: usize = 8;
 
-pub const UNDER: usize = 9;
+// The modes behind which signs may follow alike, from ALIKE on.
+pub const ALIKE: usize = 9;
 
-pub const MID: usize = 10;
+pub const OWING: usize = 9;
 
-pub const END: usize = 11;
+pub const DASH: usize = 10;
 
-pub const HYPHEN: usize = 12;
+pub const WHOLE2: usize = 11;
 
-pub const DASH: usize = 13;
+pub const NUM: usize = 12;
 
-pub const FEM: usize = 14;
+pub const LOW: usize = 13;
 
-pub const PERCENT: usize = 15;
+pub const UNDER: usize = 14;
+
+pub const MID: usize = 15;
 
 // The classes of cells: all that the table asks of one.
 const NOTHING: u64 = 0;

@@ -10,7 +10,7 @@ use Rattle.rules.proofs.Finite.{Finite, All, all}
 use Rattle.rules.specs.Sorts.{Class, aToJ, otherSmall, capital, one, otherDigit, aStop, aComma, aHyphen, aDash, aBar, masculine, feminine, aPercent, otherSign, unlisted, classNumber}
 use Rattle.rules.specs.Signs.{Way, bare, oneCapital, allCapitals, separated, firstDigit, firstLower, lower, denominator, ordinalMark, inside}
 use Rattle.rules.specs.Places.{Cause, lacksSign, breaksPair, outsideForm, sharesCells}
-use Rattle.rules.proofs.States.{Past, free, lone, caps, mixed, plain-on, past-on, under-one, under, past-bar, past-stop, past-point, past-dash, past-hyphen, past-feminine, past-percent, Future, rest, caps-on, mixed-on, digits-on, form-on, bar-on, stop-on, mark-on, Mode, Free, Lone, Owing, Mixed, Whole1, Whole2, Num, Low, Under1, Under, Mid, End, Hyphen, Dash, Fem, Percent, Kind, a-digit, a-hyphen, a-lower-zero}
+use Rattle.rules.proofs.States.{Past, free, lone, caps, mixed, plain-on, past-on, under-one, under, past-bar, past-stop, past-point, past-dash, past-hyphen, past-feminine, past-percent, Future, rest, caps-on, mixed-on, digits-on, form-on, bar-on, stop-on, mark-on, Mode, Free, Lone, Mixed, Whole1, Under1, End, Hyphen, Fem, Percent, Owing, Dash, Whole2, Num, Low, Under, Mid, Kind, a-digit, a-hyphen, a-lower-zero}
 
 -- Class
 abbrev pub class-list : List Class
@@ -255,26 +255,26 @@ future-same x y t =
 -- Mode
 abbrev pub mode-list : List Mode
 mode-list =
-    Free ∷ Lone ∷ Owing ∷ Mixed ∷ Whole1 ∷ Whole2 ∷ Num ∷ Low ∷ Under1 ∷ Under ∷ Mid ∷ End ∷ Hyphen ∷ Dash ∷ Fem
-    ∷ Percent ∷ []
+    Free ∷ Lone ∷ Mixed ∷ Whole1 ∷ Under1 ∷ End ∷ Hyphen ∷ Fem ∷ Percent ∷ Owing ∷ Dash ∷ Whole2 ∷ Num ∷ Low ∷ Under
+    ∷ Mid ∷ []
 
 pub mode-every : (f : Mode → Bool) → All f mode-list → (x : Mode) → T (f x)
 mode-every f a Free = a .0
 mode-every f a Lone = a .1 .0
-mode-every f a Owing = a .1 .1 .0
-mode-every f a Mixed = a .1 .1 .1 .0
-mode-every f a Whole1 = a .1 .1 .1 .1 .0
-mode-every f a Whole2 = a .1 .1 .1 .1 .1 .0
-mode-every f a Num = a .1 .1 .1 .1 .1 .1 .0
-mode-every f a Low = a .1 .1 .1 .1 .1 .1 .1 .0
-mode-every f a Under1 = a .1 .1 .1 .1 .1 .1 .1 .1 .0
-mode-every f a Under = a .1 .1 .1 .1 .1 .1 .1 .1 .1 .0
-mode-every f a Mid = a .1 .1 .1 .1 .1 .1 .1 .1 .1 .1 .0
-mode-every f a End = a .1 .1 .1 .1 .1 .1 .1 .1 .1 .1 .1 .0
-mode-every f a Hyphen = a .1 .1 .1 .1 .1 .1 .1 .1 .1 .1 .1 .1 .0
-mode-every f a Dash = a .1 .1 .1 .1 .1 .1 .1 .1 .1 .1 .1 .1 .1 .0
-mode-every f a Fem = a .1 .1 .1 .1 .1 .1 .1 .1 .1 .1 .1 .1 .1 .1 .0
-mode-every f a Percent = a .1 .1 .1 .1 .1 .1 .1 .1 .1 .1 .1 .1 .1 .1 .1 .0
+mode-every f a Mixed = a .1 .1 .0
+mode-every f a Whole1 = a .1 .1 .1 .0
+mode-every f a Under1 = a .1 .1 .1 .1 .0
+mode-every f a End = a .1 .1 .1 .1 .1 .0
+mode-every f a Hyphen = a .1 .1 .1 .1 .1 .1 .0
+mode-every f a Fem = a .1 .1 .1 .1 .1 .1 .1 .0
+mode-every f a Percent = a .1 .1 .1 .1 .1 .1 .1 .1 .0
+mode-every f a Owing = a .1 .1 .1 .1 .1 .1 .1 .1 .1 .0
+mode-every f a Dash = a .1 .1 .1 .1 .1 .1 .1 .1 .1 .1 .0
+mode-every f a Whole2 = a .1 .1 .1 .1 .1 .1 .1 .1 .1 .1 .1 .0
+mode-every f a Num = a .1 .1 .1 .1 .1 .1 .1 .1 .1 .1 .1 .1 .0
+mode-every f a Low = a .1 .1 .1 .1 .1 .1 .1 .1 .1 .1 .1 .1 .1 .0
+mode-every f a Under = a .1 .1 .1 .1 .1 .1 .1 .1 .1 .1 .1 .1 .1 .1 .0
+mode-every f a Mid = a .1 .1 .1 .1 .1 .1 .1 .1 .1 .1 .1 .1 .1 .1 .1 .0
 
 abbrev pub modes : Finite Mode
 modes = record { members = mode-list; at = λ f t. mode-every f (all f mode-list t) }
@@ -282,38 +282,38 @@ modes = record { members = mode-list; at = λ f t. mode-every f (all f mode-list
 abbrev pub modeNumber : Mode → ℕ
 modeNumber Free = 0
 modeNumber Lone = 1
-modeNumber Owing = 2
-modeNumber Mixed = 3
-modeNumber Whole1 = 4
-modeNumber Whole2 = 5
-modeNumber Num = 6
-modeNumber Low = 7
-modeNumber Under1 = 8
-modeNumber Under = 9
-modeNumber Mid = 10
-modeNumber End = 11
-modeNumber Hyphen = 12
-modeNumber Dash = 13
-modeNumber Fem = 14
-modeNumber Percent = 15
+modeNumber Mixed = 2
+modeNumber Whole1 = 3
+modeNumber Under1 = 4
+modeNumber End = 5
+modeNumber Hyphen = 6
+modeNumber Fem = 7
+modeNumber Percent = 8
+modeNumber Owing = 9
+modeNumber Dash = 10
+modeNumber Whole2 = 11
+modeNumber Num = 12
+modeNumber Low = 13
+modeNumber Under = 14
+modeNumber Mid = 15
 
 pub mode-back-number : (x : Mode) → getD mode-list (modeNumber x) Free ≡ x
 mode-back-number Free = refl
 mode-back-number Lone = refl
-mode-back-number Owing = refl
 mode-back-number Mixed = refl
 mode-back-number Whole1 = refl
+mode-back-number Under1 = refl
+mode-back-number End = refl
+mode-back-number Hyphen = refl
+mode-back-number Fem = refl
+mode-back-number Percent = refl
+mode-back-number Owing = refl
+mode-back-number Dash = refl
 mode-back-number Whole2 = refl
 mode-back-number Num = refl
 mode-back-number Low = refl
-mode-back-number Under1 = refl
 mode-back-number Under = refl
 mode-back-number Mid = refl
-mode-back-number End = refl
-mode-back-number Hyphen = refl
-mode-back-number Dash = refl
-mode-back-number Fem = refl
-mode-back-number Percent = refl
 
 pub mode-same : (x y : Mode) → T (eqb (modeNumber x) (modeNumber y)) → x ≡ y
 mode-same x y t =

@@ -22,12 +22,16 @@ pub data Future : Type 0 where
 pub data Mode : Type 0 where
   -- nothing is begun
   Free : Mode
-  -- a run: one capital; capitals that a small letter must follow; with a small letter; after 46-46, one letter; two or more
-  Lone Owing Mixed Whole1 Whole2 : Mode
-  -- a number; lower digits; a denominator that is 1 so far; any other denominator; after a point inside a number; after one that ends it
-  Num Low Under1 Under Mid End : Mode
-  -- directly after a hyphen, U+2014, ª, %
-  Hyphen Dash Fem Percent : Mode
+  -- a run: one capital; with a small letter; after 46-46, one letter
+  Lone Mixed Whole1 : Mode
+  -- a denominator that is 1 so far; after a point that ends a number
+  Under1 End : Mode
+  -- directly after a hyphen, ª, %
+  Hyphen Fem Percent : Mode
+  -- where more of the same may follow: capitals that a small letter must follow; U+2014; after 46-46, two letters or more
+  Owing Dash Whole2 : Mode
+  -- a number; lower digits; any other denominator; after a point inside a number
+  Num Low Under Mid : Mode
 
 -- what a row may begin with
 pub data Kind : Type 0 where

@@ -1,7 +1,7 @@
 // A walk over a part of a row, sign by sign. Between two signs it knows a mode and which pairs are open; both follow from the cells before. What is read is
 // written to a lent text, if there is room for it. What a walk finds is specs/Walks.antt.
+use readings::ALIKE;
 use readings::DASH;
-use readings::FREE;
 use readings::MID;
 use readings::NO_POINT;
 use readings::OWING;
@@ -210,7 +210,7 @@ fn alike(
 // "each step gives the print of the next sign and the place after it." From a place, where a sign starts, with what the signs before it leave (`begun` is the
 // mode, `unclosed` are the open pairs), as long as the next sign starts before the place `stop`. Their print is written from the first element on, if there
 // is room. A sign that leaves the mode as it found it may be one of many, and behind a point inside a number stands a digit: those that follow alike are read at
-// once. (Behind a sign that leaves nothing begun none are, so that is asked first.)
+// once. (Behind most signs nothing may follow alike, so that is asked first: their modes are the lowest.)
 pub fn walk(
     row: &[u8],
     from: usize,
@@ -259,7 +259,7 @@ pub fn walk(
                 return Walked::Nowhere;
             };
             count = put(text, count, lead, point);
-            if mode_after != FREE && (mode_after == mode || mode_after == MID) {
+            if ALIKE <= mode_after && (mode_after == mode || mode_after == MID) {
                 let Walked::On {
                     at: at_last,
                     mode: mode_last,
