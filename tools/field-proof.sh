@@ -1,7 +1,7 @@
 #!/bin/sh
 # Prints the proof of a look-up of one field of the cells, crates/readings/proofs/cells/FUNCTION/Proof.antt: field-proof.sh
-# FUNCTION FIELD COLUMN PRINTER [ONLY]. Its keys are the cells that have something in that column of tools/cell-list.awk (and
-# in the column ONLY too); one need for each, and one for all others. PRINTER is the script that runs this one.
+# FUNCTION FIELD COLUMN PRINTER. Its keys are the cells that have something in that column of tools/cell-list.awk, or, where
+# COLUMN is `every`, all cells; one need for each, and one for all others. PRINTER is the script that runs this one.
 #
 # Nothing printed is trusted: the prover checks the proof.
 set -eu
@@ -11,9 +11,9 @@ CDPATH='' cd "$(dirname "$0")/.."
 LC_ALL=C
 export LC_ALL
 
-function=$1 field=$2 column=$3 printer=$4 only=${5-$3}
-keys=$(awk -f tools/sign-list.awk | awk -f tools/cell-list.awk | awk -F '\t' -v column="$column" -v only="$only" '
-$1 != "two" && $column != "none" && $only != "none" { print $1 }')
+function=$1 field=$2 column=$3 printer=$4
+keys=$(awk -f tools/sign-list.awk | awk -f tools/cell-list.awk | awk -F '\t' -v column="$column" '
+$1 != "two" && (column == "every" || $column != "none") { print $1 }')
 count=$(printf '%s\n' "$keys" | awk 'END { print NR }')
 name=$(echo "$function" | tr _ -)
 

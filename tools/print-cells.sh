@@ -102,7 +102,8 @@ cat <<'TEXT'
 }
 TEXT
 
-# A look-up of one field, for the cells that follow: NAME, its column of the cells' lines, and what it is.
+# A look-up of one field, for the cells that follow: NAME, its column of the cells' lines, what it is, the field, and a column that must have something too. Where `every` stands last, the cells that
+# do not have the field are named as well.
 field() {
     cat <<TEXT
 
@@ -112,8 +113,10 @@ pub fn $1(cell: u8) -> u32
 {
     match cell {
 TEXT
-    printf '%s\n' "$cells" | awk -F '\t' -v column="$2" -v only="${5-}" '
-    $1 != "two" && $column != "none" && (only == "" || $only != "none") { print "        D" $2 " => " $column ", // " $9 }'
+    printf '%s\n' "$cells" | awk -F '\t' -v column="$2" -v only="$5" -v every="${6-}" '
+    $1 == "two" { next }
+    $column != "none" && $only != "none" { print "        D" $2 " => " $column ", // " $9; next }
+    every { print "        D" $2 " => NO_POINT," }'
     cat <<'TEXT'
         _ => NO_POINT,
     }
@@ -121,11 +124,11 @@ TEXT
 TEXT
 }
 
-field capital_of 5 'The capital of a letter, or NO_POINT.' capitalIn
-field capital_owed 5 'The same, where one capital follows another, each with its 46. (A look-up of its own, for the loop over them.)' capitalIn
-field figure_of 6 'The digit of a cell, or NO_POINT.' figureIn
-field lower_of 7 'The digit of a cell as a lower digit, or NO_POINT.' lowerIn
-field letter_of 4 'The letter of a cell that is a digit too, a to j, or NO_POINT.' letterIn 6
+field capital_of 5 'The capital of a letter, or NO_POINT.' capitalIn 5
+field capital_owed 5 'The same, where one capital follows another, each with its 46. (A look-up of its own, for the loop over them.)' capitalIn 5
+field figure_of 6 'The digit of a cell, or NO_POINT. (Here and below every cell is named: with gaps as wide the compiler would make jumps of them, and no table.)' figureIn 6 every
+field lower_of 7 'The digit of a cell as a lower digit, or NO_POINT.' lowerIn 7 every
+field letter_of 4 'The letter of a cell that is a digit too, a to j, or NO_POINT.' letterIn 6 every
 
 cat <<'TEXT'
 

@@ -2,4 +2,4 @@
 # prints: crates/readings/proofs/cells/letter_of/Proof.antt
 #
 # The proof of the look-up letter_of of crates/readings/src/cells.rt.
-exec "$(dirname "$0")/field-proof.sh" letter_of letterIn 4 print-letter-of-proof.sh 6
+exec "$(dirname "$0")/field-proof.sh" letter_of letterIn every print-letter-of-proof.sh

@@ -14,7 +14,7 @@ use Rattle.entries.proofs.Places.{upto, none-below}
 use Rattle.readings.specs.Fields.{noCell}
 use Rattle.readings.specs.Words.{words, wordOf}
 
-past-words : (c : ℕ) → noCell < suc c → wordOf c ≡ 0
+pub past-words : (c : ℕ) → noCell < suc c → wordOf c ≡ 0
 unfolding words
 past-words c l = List·getD-eq-default words 0 {n = c} (omega arith)
 

@@ -583,21 +583,75 @@ pub fn capital_owed(cell: u8) -> u32
     }
 }
 
-// The digit of a cell, or NO_POINT.
+// The digit of a cell, or NO_POINT. (Here and below every cell is named: with gaps as wide the compiler would make jumps of them, and no table.)
 pub fn figure_of(cell: u8) -> u32
     ensures { λ r. ⌜ r ≡ figureIn (wordOf cell) ⌝ }
 {
     match cell {
+        D0 => NO_POINT,
         D1 => 0x31, // 1 A a ª
+        D2 => NO_POINT,
         D12 => 0x32, // 2 B b
+        D3 => NO_POINT,
+        D13 => NO_POINT,
+        D23 => NO_POINT,
+        D123 => NO_POINT,
+        D4 => NO_POINT,
         D14 => 0x33, // 3 C c
         D24 => 0x39, // 9 I i
         D124 => 0x36, // 6 F f
+        D34 => NO_POINT,
+        D134 => NO_POINT,
+        D234 => NO_POINT,
+        D1234 => NO_POINT,
+        D5 => NO_POINT,
         D15 => 0x35, // 5 E e
+        D25 => NO_POINT,
         D125 => 0x38, // 8 H h
+        D35 => NO_POINT,
+        D135 => NO_POINT,
+        D235 => NO_POINT,
+        D1235 => NO_POINT,
+        D45 => NO_POINT,
         D145 => 0x34, // 4 D d
         D245 => 0x30, // 0 J j
         D1245 => 0x37, // 7 G g
+        D345 => NO_POINT,
+        D1345 => NO_POINT,
+        D2345 => NO_POINT,
+        D12345 => NO_POINT,
+        D6 => NO_POINT,
+        D16 => NO_POINT,
+        D26 => NO_POINT,
+        D126 => NO_POINT,
+        D36 => NO_POINT,
+        D136 => NO_POINT,
+        D236 => NO_POINT,
+        D1236 => NO_POINT,
+        D46 => NO_POINT,
+        D146 => NO_POINT,
+        D246 => NO_POINT,
+        D1246 => NO_POINT,
+        D346 => NO_POINT,
+        D1346 => NO_POINT,
+        D2346 => NO_POINT,
+        D12346 => NO_POINT,
+        D56 => NO_POINT,
+        D156 => NO_POINT,
+        D256 => NO_POINT,
+        D1256 => NO_POINT,
+        D356 => NO_POINT,
+        D1356 => NO_POINT,
+        D2356 => NO_POINT,
+        D12356 => NO_POINT,
+        D456 => NO_POINT,
+        D1456 => NO_POINT,
+        D2456 => NO_POINT,
+        D12456 => NO_POINT,
+        D3456 => NO_POINT,
+        D13456 => NO_POINT,
+        D23456 => NO_POINT,
+        D123456 => NO_POINT,
         _ => NO_POINT,
     }
 }
@@ -607,16 +661,70 @@ pub fn lower_of(cell: u8) -> u32
     ensures { λ r. ⌜ r ≡ lowerIn (wordOf cell) ⌝ }
 {
     match cell {
+        D0 => NO_POINT,
+        D1 => NO_POINT,
         D2 => 0x31, // , 1
+        D12 => NO_POINT,
+        D3 => NO_POINT,
+        D13 => NO_POINT,
         D23 => 0x32, // 2 ;
+        D123 => NO_POINT,
+        D4 => NO_POINT,
+        D14 => NO_POINT,
+        D24 => NO_POINT,
+        D124 => NO_POINT,
+        D34 => NO_POINT,
+        D134 => NO_POINT,
+        D234 => NO_POINT,
+        D1234 => NO_POINT,
+        D5 => NO_POINT,
+        D15 => NO_POINT,
         D25 => 0x33, // 3 :
+        D125 => NO_POINT,
         D35 => 0x39, // 9 emphasis opens emphasis closes
+        D135 => NO_POINT,
         D235 => 0x36, // ! 6 ¡
+        D1235 => NO_POINT,
+        D45 => NO_POINT,
+        D145 => NO_POINT,
+        D245 => NO_POINT,
+        D1245 => NO_POINT,
+        D345 => NO_POINT,
+        D1345 => NO_POINT,
+        D2345 => NO_POINT,
+        D12345 => NO_POINT,
+        D6 => NO_POINT,
+        D16 => NO_POINT,
         D26 => 0x35, // 5 ? ¿
+        D126 => NO_POINT,
+        D36 => NO_POINT,
+        D136 => NO_POINT,
         D236 => 0x38, // 8 « »
+        D1236 => NO_POINT,
+        D46 => NO_POINT,
+        D146 => NO_POINT,
+        D246 => NO_POINT,
+        D1246 => NO_POINT,
+        D346 => NO_POINT,
+        D1346 => NO_POINT,
+        D2346 => NO_POINT,
+        D12346 => NO_POINT,
+        D56 => NO_POINT,
+        D156 => NO_POINT,
         D256 => 0x34, // 4
+        D1256 => NO_POINT,
         D356 => 0x30, // 0
+        D1356 => NO_POINT,
         D2356 => 0x37, // 7 =
+        D12356 => NO_POINT,
+        D456 => NO_POINT,
+        D1456 => NO_POINT,
+        D2456 => NO_POINT,
+        D12456 => NO_POINT,
+        D3456 => NO_POINT,
+        D13456 => NO_POINT,
+        D23456 => NO_POINT,
+        D123456 => NO_POINT,
         _ => NO_POINT,
     }
 }
@@ -626,16 +734,70 @@ pub fn letter_of(cell: u8) -> u32
     ensures { λ r. ⌜ r ≡ letterIn (wordOf cell) ⌝ }
 {
     match cell {
+        D0 => NO_POINT,
         D1 => 0x61, // 1 A a ª
+        D2 => NO_POINT,
         D12 => 0x62, // 2 B b
+        D3 => NO_POINT,
+        D13 => NO_POINT,
+        D23 => NO_POINT,
+        D123 => NO_POINT,
+        D4 => NO_POINT,
         D14 => 0x63, // 3 C c
         D24 => 0x69, // 9 I i
         D124 => 0x66, // 6 F f
+        D34 => NO_POINT,
+        D134 => NO_POINT,
+        D234 => NO_POINT,
+        D1234 => NO_POINT,
+        D5 => NO_POINT,
         D15 => 0x65, // 5 E e
+        D25 => NO_POINT,
         D125 => 0x68, // 8 H h
+        D35 => NO_POINT,
+        D135 => NO_POINT,
+        D235 => NO_POINT,
+        D1235 => NO_POINT,
+        D45 => NO_POINT,
         D145 => 0x64, // 4 D d
         D245 => 0x6a, // 0 J j
         D1245 => 0x67, // 7 G g
+        D345 => NO_POINT,
+        D1345 => NO_POINT,
+        D2345 => NO_POINT,
+        D12345 => NO_POINT,
+        D6 => NO_POINT,
+        D16 => NO_POINT,
+        D26 => NO_POINT,
+        D126 => NO_POINT,
+        D36 => NO_POINT,
+        D136 => NO_POINT,
+        D236 => NO_POINT,
+        D1236 => NO_POINT,
+        D46 => NO_POINT,
+        D146 => NO_POINT,
+        D246 => NO_POINT,
+        D1246 => NO_POINT,
+        D346 => NO_POINT,
+        D1346 => NO_POINT,
+        D2346 => NO_POINT,
+        D12346 => NO_POINT,
+        D56 => NO_POINT,
+        D156 => NO_POINT,
+        D256 => NO_POINT,
+        D1256 => NO_POINT,
+        D356 => NO_POINT,
+        D1356 => NO_POINT,
+        D2356 => NO_POINT,
+        D12356 => NO_POINT,
+        D456 => NO_POINT,
+        D1456 => NO_POINT,
+        D2456 => NO_POINT,
+        D12456 => NO_POINT,
+        D3456 => NO_POINT,
+        D13456 => NO_POINT,
+        D23456 => NO_POINT,
+        D123456 => NO_POINT,
         _ => NO_POINT,
     }
 }

@@ -1,9 +1,9 @@
 -- The ends of the functions, over plain values: what each returns is the reading that its specification says. Assumes nothing.
 use mathlib.Core.Path.{_≡_, refl, sym, _∙_, ap, subst}
-use mathlib.Core.Bool.{Bool, true, false, _&&_, _||_, not, cond}
+use mathlib.Core.Bool.{Bool, true, false, _&&_, _||_, not, cond, true≢false, Bool·beq}
 use mathlib.Core.List.{List, [], _∷_}
 use mathlib.Core.Logic.{_⊎_, inl, inr, ⊎-elim}
-use Prim.Native.Nat.{ℕ, zero, suc, _+_, _≤_, _<_}
+use Prim.Native.Nat.{ℕ, zero, suc, _+_, _/_, _%_, _^_, _≤_, _<_}
 use Prim.Native.Char.{code}
 use native.Mathlib.Omega.{arith}
 use native.Mathlib.Nat.{not-suc-le-zero, le-of-suc-le-suc}
@@ -12,7 +12,7 @@ use lib.ListN.{length, getD, List·getD-eq-default}
 use borrow.Author.Tests.{eq-eqb, ne-eqb, lt-ltb, le-ltb, le-leb, lt-leb, leb-true, not-true}
 use Rattle.rules.specs.Cells.{Row, dots, lastCell}
 use Rattle.rules.specs.Pairs.{kinds}
-use Rattle.rules.proofs.Finite.{below, at-below, and-false, le-or-lt, implies, T-of-eqb}
+use Rattle.rules.proofs.Finite.{below, at-below, beq-same, and-false, le-or-lt, implies, T-of-eqb}
 use Rattle.rules.proofs.Machine.{at-rest}
 use Rattle.entries.specs.Chosen.{choose}
 use Rattle.entries.proofs.Keys.{among, Rest, keysOf, chosen-rest, rest-none}
@@ -26,9 +26,11 @@ use Rattle.readings.specs.Fields.{deedOf, classIn, pointIn, capitalIn, figureIn
 use Rattle.readings.specs.Words.{words, wordOf, twoOf}
 use Rattle.readings.specs.Readings.{noPoint, Reading, reads, aMark, one, usualBy, onceList, digitCell, capitalModes, capitalLetter, capitalBy, numberBy, percentBy, innerQuotes, longerBy, prefixBy, askList, askedBy, readingOf, byWord, openerOf, closerOf, markStep, stepOf, stepAt}
 use Rattle.readings.specs.Readings as reading
+use Rattle.signs.specs.Among.{digitCells, lowerCells, cellAmong, lowerCell}
 use Rattle.signs.specs.Runs.{noRun, runOf, homeOf, Quick, InRun}
 use Rattle.readings.specs.declared.Step.{Step}
 use Rattle.readings.specs.declared.Step.the-variants as variant
+use Rattle.readings.proofs.Words.{past-words}
 use Rattle.readings.proofs.Settling.{is-true}
 use Rattle.readings.proofs.Tested.{sights}
 use Rattle.readings.proofs.Turning.{sight-small}
@@ -85,24 +87,54 @@ module _ (next o k p : ℕ) where
   pub opens-it : isOpen o k ≡ false → p ≡ openerOf k → (u : ℕ) → variant.Sign noPoint p next mode.free u ≡ variant.Sign noPoint (cond (isOpen o k) (closerOf k) (openerOf k)) next mode.free u
   opens-it e q u = rw (e, q)
 
--- a digit's cell
-pub digit-told : (y : ℕ) (f : ℕ) → f ≡ figureIn (wordOf y) → not (eqb f noPoint) ≡ digitCell y
-digit-told y f e = ap (λ (n : ℕ). not (eqb n noPoint)) e
+-- WHAT A CELL IS AMONG: a byte that is none is among nothing
+module _ (these c : ℕ) where
+  pub high-among : lastCell < c → false ≡ cellAmong these c
+  high-among l = sym (rw (lt-leb c lastCell l))
+
+  pub low-among : c ≤ lastCell → (b : Bool) → b ≡ eqb (these / 2 ^ (c % 64) % 2) 1 → b ≡ cellAmong these c
+  low-among l b e = e ∙ sym (rw (le-leb c lastCell l))
+
+  -- those that have a field, if it is so of the cells, one by one
+  pub among-is : (g : ℕ → ℕ) → g 0 ≡ 0 → T (below (λ c. Bool·beq (cellAmong these c) (not (eqb (g (wordOf c)) noPoint))) noCell)
+      → cellAmong these c ≡ not (eqb (g (wordOf c)) noPoint)
+  among-is g z t =
+      ⊎-elim (λ l. beq-same (cellAmong these c) (not (eqb (g (wordOf c)) noPoint)) (at-below (λ c. Bool·beq (cellAmong these c) (not (eqb (g (wordOf c)) noPoint))) noCell t c l))
+      (λ l. sym (high-among (omega (arith, l))) ∙ sym (ap (λ (n : ℕ). not (eqb n noPoint)) (ap g (past-words c l) ∙ z))) (le-or-lt (suc c) noCell)
+
+pub digit-told : (y : ℕ) → cellAmong digitCells y ≡ digitCell y
+unfolding words
+digit-told y = among-is digitCells y figureIn refl tt
+
+pub lower-told : (y : ℕ) → cellAmong lowerCells y ≡ lowerCell y
+unfolding words
+lower-told y = among-is lowerCells y lowerIn refl tt
+
+-- what a test of a field says of it
+has-some : (n : ℕ) → not (eqb n noPoint) ≡ true → n ≡ noPoint → ⊥
+has-some n t e = true≢false (sym t ∙ ap not (eq-eqb n noPoint e))
+
+has-none : (n : ℕ) → not (eqb n noPoint) ≡ false → n ≡ noPoint
+has-none n t = go (eqb n noPoint) refl t
+  where
+    go : (b : Bool) → eqb n noPoint ≡ b → not b ≡ false → n ≡ noPoint
+    go true e t = eqb→eq n noPoint (subst T (sym e) tt)
+    go false e t = absurd (true≢false t)
 
 -- AFTER 3456, of the word of the second cell
-module _ (at o w f : ℕ) (e : f ≡ figureIn w) where
-  pub number-figure : (f ≡ noPoint → ⊥) → variant.Sign noPoint f (at + 2) mode.num o ≡ stepOf at o (numberBy w)
+module _ (at o w : ℕ) where
+  pub number-figure : not (eqb (figureIn w) noPoint) ≡ true → (f : ℕ) → f ≡ figureIn w → variant.Sign noPoint f (at + 2) mode.num o ≡ stepOf at o (numberBy w)
   unfolding numberBy
-  number-figure n = rw (ne-eqb (figureIn w) noPoint (λ q. n (e ∙ q)), e)
+  number-figure n f e = rw (ne-eqb (figureIn w) noPoint (has-some (figureIn w) n), e)
 
-  module _ (z : f ≡ noPoint) (l : ℕ) (g : l ≡ lowerIn w) where
-    pub number-lower : (l ≡ noPoint → ⊥) → variant.Sign noPoint l (at + 2) mode.low o ≡ stepOf at o (numberBy w)
+  module _ (z : not (eqb (figureIn w) noPoint) ≡ false) where
+    pub number-lower : not (eqb (lowerIn w) noPoint) ≡ true → (l : ℕ) → l ≡ lowerIn w → variant.Sign noPoint l (at + 2) mode.low o ≡ stepOf at o (numberBy w)
     unfolding numberBy
-    number-lower n = rw (eq-eqb (figureIn w) noPoint (sym e ∙ z), ne-eqb (lowerIn w) noPoint (λ q. n (g ∙ q)), g)
+    number-lower n l g = rw (eq-eqb (figureIn w) noPoint (has-none (figureIn w) z), ne-eqb (lowerIn w) noPoint (has-some (lowerIn w) n), g)
 
-    pub number-none : l ≡ noPoint → variant.Nothing ≡ stepOf at o (numberBy w)
+    pub number-none : not (eqb (lowerIn w) noPoint) ≡ false → variant.Nothing ≡ stepOf at o (numberBy w)
     unfolding numberBy
-    number-none n = rw (eq-eqb (figureIn w) noPoint (sym e ∙ z), eq-eqb (lowerIn w) noPoint (sym g ∙ n))
+    number-none n = rw (eq-eqb (figureIn w) noPoint (has-none (figureIn w) z), eq-eqb (lowerIn w) noPoint (has-none (lowerIn w) n))
 
 -- AFTER 456-356
 module _ (at o z : ℕ) where

@@ -40,14 +40,31 @@ use readings::WHOLE1;
 use readings::WHOLE2;
 use readings::capital_in;
 use readings::cells;
+use readings::cells::D1;
 use readings::cells::D2;
 use readings::cells::D3;
 use readings::cells::D6;
+use readings::cells::D12;
+use readings::cells::D14;
+use readings::cells::D15;
+use readings::cells::D23;
+use readings::cells::D24;
+use readings::cells::D25;
+use readings::cells::D26;
+use readings::cells::D35;
 use readings::cells::D36;
 use readings::cells::D46;
+use readings::cells::D124;
+use readings::cells::D125;
+use readings::cells::D145;
+use readings::cells::D235;
 use readings::cells::D236;
+use readings::cells::D245;
+use readings::cells::D256;
 use readings::cells::D356;
 use readings::cells::D456;
+use readings::cells::D1245;
+use readings::cells::D2356;
 use readings::class_in;
 use readings::closer_of;
 use readings::deed_of;
@@ -69,6 +86,7 @@ ghost use Rattle.readings.specs.Modes.{modeOf, modeCount, owing, num, mid, dash
 ghost use Rattle.readings.specs.Fields.{pointIn, kindIn, usualIn, runPoint, cellOf};
 ghost use Rattle.readings.specs.Words.{wordOf};
 ghost use Rattle.readings.specs.Readings.{noPoint, usualBy, markStep, digitCell, stepOf, capitalBy, numberBy, percentBy, prefixBy, askedBy, stepAt};
+ghost use Rattle.signs.specs.Among.{cellAmong, lowerCell};
 ghost use Rattle.signs.specs.Runs.{noRun, runOf, homeOf, Quick, InRun};
 
 // How many bits a cell's word has.
@@ -82,6 +100,29 @@ const CAPITALS: usize = 16;
 const LOWERS: usize = 32;
 
 pub const NO_RUN: usize = 64;
+
+// The cells of the digits 1 to 9 and 0, and those of the lower digits: a bit for each.
+const DIGIT_CELLS: u64 = (1 << D1)
+    + (1 << D12)
+    + (1 << D14)
+    + (1 << D145)
+    + (1 << D15)
+    + (1 << D124)
+    + (1 << D1245)
+    + (1 << D125)
+    + (1 << D24)
+    + (1 << D245);
+
+const LOWER_CELLS: u64 = (1 << D2)
+    + (1 << D23)
+    + (1 << D25)
+    + (1 << D256)
+    + (1 << D26)
+    + (1 << D235)
+    + (1 << D2356)
+    + (1 << D236)
+    + (1 << D35)
+    + (1 << D356);
 
 // No cell: past the row's end, or where the byte is none.
 const NO_CELL: u8 = 64;
@@ -156,11 +197,28 @@ fn mark(kind: usize, next: usize, opened: usize) -> Step
     sign(opener_of(kind), next, FREE, pairs::turned(opened, kind))
 }
 
+// Is the cell one of these? (To compare what a look-up gives with NO_POINT would be compiled to a jump for each cell.)
+fn is_among(these: u64, cell: u8) -> bool
+    ensures { λ r. ⌜ r ≡ cellAmong these cell ⌝ }
+{
+    if LAST_CELL < cell {
+        return false;
+    }
+    (these >> (cell as usize % WORD_BITS)) % 2 == 1
+}
+
 // Is the cell that of a digit?
 fn is_digit(cell: u8) -> bool
     ensures { λ r. ⌜ r ≡ digitCell cell ⌝ }
 {
-    cells::figure_of(cell) != NO_POINT
+    is_among(DIGIT_CELLS, cell)
+}
+
+// Is it that of a lower digit?
+fn is_lower(cell: u8) -> bool
+    ensures { λ r. ⌜ r ≡ lowerCell cell ⌝ }
+{
+    is_among(LOWER_CELLS, cell)
 }
 
 // After 46: a letter is a capital, and the deed says the mode after it; 46 again and a letter begin a run of capitals; 2 makes >. (The capital is looked up in
@@ -201,13 +259,11 @@ fn number(row: &[u8], at: usize, opened: usize) -> Step
     ensures { λ r. ⌜ r ≡ stepOf at opened (numberBy (wordOf (cellOf (now (row .entry)) (at + 1)))) ⌝ }
 {
     let second = cell_at(row, at + 1);
-    let figure = cells::figure_of(second);
-    if figure != NO_POINT {
-        return sign(figure, at + 2, NUM, opened);
+    if is_digit(second) {
+        return sign(cells::figure_of(second), at + 2, NUM, opened);
     }
-    let lower = cells::lower_of(second);
-    if lower != NO_POINT {
-        return sign(lower, at + 2, LOW, opened);
+    if is_lower(second) {
+        return sign(cells::lower_of(second), at + 2, LOW, opened);
     }
     Step::Nothing
 }

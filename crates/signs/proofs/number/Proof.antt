@@ -3,6 +3,8 @@ use mathlib.Core.Path.{_≡_, sym, ap, _∙_}
 use Prim.Native.Nat.{ℕ, _+_}
 use Rattle.readings.specs.Fields.{figureIn, lowerIn, cellOf}
 use Rattle.readings.specs.Words.{wordOf}
+use Rattle.readings.specs.Readings.{digitCell}
+use Rattle.signs.specs.Among.{lowerCell}
 use Rattle.signs.proofs.Cases.{number-figure, number-lower, number-none}
 use borrow.Author.Needs.{needs}
 use Rattle.signs.proofs.number.Statement.{statement}
@@ -10,28 +12,43 @@ use Rattle.signs.proofs.number.Tie as tie
 use Rattle.signs.proofs.number.Reads as reads
 use Rattle.signs.proofs.number.Lts as lts
 use Rattle.signs.proofs.cell_at.Reads as cell-at-reads
+use Rattle.signs.proofs.is_digit.Reads as is-digit-reads
+use Rattle.signs.proofs.is_lower.Reads as is-lower-reads
 use Rattle.readings.proofs.cells.figure_of.Reads as figure-of-reads
 use Rattle.readings.proofs.cells.lower_of.Reads as lower-of-reads
 use Rattle.signs.proofs.sign.Reads as sign-reads
 
--- once the digit of the second cell is known
-abbrev K : Type 0
-K = tie.After-figure-of
+-- the second cell, and whether it has a digit
+abbrev D : Type 0
+D = tie.After-is-digit
 
-abbrev second : K → ℕ
-second k = wordOf (cellOf (k .before .before .before .args .row .now) (k .before .before .before .args .at + 1))
+abbrev of-digit : D → tie.Start
+of-digit k = k .before .before .before
 
-figure-is : (k : K) → k .figure-of .result ≡ figureIn (second k)
-figure-is k = k .figure-of .ensures ∙ ap (λ (n : ℕ). figureIn (wordOf n)) (k .before .cell-at .ensures)
+abbrev Y : tie.Start → ℕ
+Y s = cellOf (s .args .row .now) (s .args .at + 1)
 
-lower-is : (l : tie.After-lower-of) → l .lower-of .result ≡ lowerIn (second (l .before .before))
-lower-is l = l .lower-of .ensures ∙ ap (λ (n : ℕ). lowerIn (wordOf n)) (l .before .before .before .cell-at .ensures)
+digit-is : (k : D) → k .is-digit .result ≡ digitCell (Y (of-digit k))
+digit-is k = k .is-digit .ensures ∙ ap digitCell (k .before .cell-at .ensures)
+
+-- whether it has a lower one
+abbrev L : Type 0
+L = tie.After-is-lower
+
+abbrev of-lower : L → D
+of-lower l = l .before .before
+
+lower-is : (l : L) → l .is-lower .result ≡ lowerCell (Y (of-digit (of-lower l)))
+lower-is l = l .is-lower .ensures ∙ ap lowerCell (of-lower l .before .cell-at .ensures)
 
 add-cell-at : tie.Need-add-cell-at
 add-cell-at c = search needs
 
 cell-at-requires : tie.Need-cell-at-requires
 cell-at-requires c κs = search needs
+
+is-digit-requires : tie.Need-is-digit-requires
+is-digit-requires c κs = search needs
 
 figure-of-requires : tie.Need-figure-of-requires
 figure-of-requires c κs = search needs
@@ -44,9 +61,15 @@ sign-requires c κs = search needs
 
 returns : tie.Need-returns
 returns c =
-    let k = c .before .before in
-    let s = k .before .before .before in
-    c .sign .ensures ∙ number-figure (s .args .at) (s .args .opened) (second k) (k .figure-of .result) (figure-is k) (c .before .if1 .taken)
+    let f = c .before in
+    let k = f .before .before in
+    let s = of-digit k in
+    c .sign .ensures
+    ∙ number-figure (s .args .at) (s .args .opened) (wordOf (Y s)) (sym (digit-is k) ∙ f .before .if1 .taken) (f .figure-of .result)
+    (f .figure-of .ensures ∙ ap (λ (n : ℕ). figureIn (wordOf n)) (k .before .cell-at .ensures))
+
+is-lower-requires : tie.Need-is-lower-requires
+is-lower-requires c κs = search needs
 
 lower-of-requires : tie.Need-lower-of-requires
 lower-of-requires c κs = search needs
@@ -59,20 +82,20 @@ sign-requires-2 c κs = search needs
 
 returns-2 : tie.Need-returns-2
 returns-2 c =
-    let l = c .before .before in
-    let k = l .before .before in
-    let s = k .before .before .before in
+    let f = c .before in
+    let l = f .before .before in
+    let k = of-lower l in
+    let s = of-digit k in
     c .sign2 .ensures
-    ∙ number-lower (s .args .at) (s .args .opened) (second k) (k .figure-of .result) (figure-is k) (l .before .if1 .left) (l .lower-of .result) (lower-is l)
-    (c .before .if2 .taken)
+    ∙ number-lower (s .args .at) (s .args .opened) (wordOf (Y s)) (sym (digit-is k) ∙ l .before .if1 .left) (sym (lower-is l) ∙ f .before .if2 .taken) (f .lower-of .result)
+    (f .lower-of .ensures ∙ ap (λ (n : ℕ). lowerIn (wordOf n)) (k .before .cell-at .ensures))
 
 returns-3 : tie.Need-returns-3
 returns-3 c =
     let l = c .before in
-    let k = l .before .before in
-    let s = k .before .before .before in
-    number-none (s .args .at) (s .args .opened) (second k) (k .figure-of .result) (figure-is k) (l .before .if1 .left) (l .lower-of .result) (lower-is l)
-    (c .if2 .left)
+    let k = of-lower l in
+    let s = of-digit k in
+    number-none (s .args .at) (s .args .opened) (wordOf (Y s)) (sym (digit-is k) ∙ l .before .if1 .left) (sym (lower-is l) ∙ c .if2 .left)
 
 pub number-spec : {M : Type 1} → statement M
 number-spec =
@@ -80,10 +103,12 @@ number-spec =
     (tie.spec
     add-cell-at
     cell-at-requires
+    is-digit-requires
     figure-of-requires
     add-sign
     sign-requires
     returns
+    is-lower-requires
     lower-of-requires
     add-sign-2
     sign-requires-2
