@@ -1,7 +1,7 @@
 #!/bin/sh
 # prints: crates/entries/src/list.rt
 #
-# The sign list as code: the word of each code point by its fields, and the two look-ups. The signs and their cells are read
+# The sign list as code: the word of each code point by its fields, and the look-up. The signs and their cells are read
 # from the definitions (tools/sign-list.awk), so a new sign is a line of crates/rules/specs/Castilian.antt, and a code point that
 # normalising replaces by another is looked up as that one. What is the same for every list, as what each class is, stands below
 # as text.
@@ -56,7 +56,6 @@ use crate::UNDER;
 use crate::UNLISTED;
 use crate::USUAL;
 ghost use mathlib.Core.Path.{_≡_};
-ghost use Prim.Native.Nat.{_<_, _≤_};
 ghost use Rattle.rules.specs.Castilian.{castilian};
 ghost use Rattle.rules.proofs.Plain.{oneFor};
 ghost use Rattle.entries.specs.Entries.{entryOf};
@@ -180,43 +179,33 @@ printf '%s\n' "$signs" | awk -F '\t' '
     print ""
 }'
 
-# The arms of the look-up of one part.
-arms() { # PART
-    printf '%s\n' "$looked_up" | awk -F '\t' -v part="$1" '
-    $3 == part { print "        " $2 " => " $1 ", // " $4 }'
+# The arms of the look-up of one part, each line behind INDENT.
+arms() { # PART INDENT
+    printf '%s\n' "$looked_up" | awk -F '\t' -v part="$1" -v indent="$2" '
+    $3 == part { print indent $2 " => " $1 ", // " $4 }'
 }
 
 cat <<'TEXT'
-// A code point below 256. All 256 are named, so that the table, once compiled, is read without a test of where it begins and ends. (Those without a
-// sign are in two arms, the even ones and the odd: numbers that follow one another in one arm would be compiled to a test of their own.)
-pub fn low(point: u32) -> u64
-    requires { ⌜ point < 256 ⌝ }
+// The word of a code point. All below 256 are named, and the others are asked for behind them: once compiled, the table is read as soon as the code point is known to
+// be below 256, by the code point itself. (Those without a sign are in two arms, the even ones and the odd: numbers that follow one another in one arm would be
+// compiled to a test of their own. All in one `match` would be a jump and no table.)
+pub fn word_of(point: u32) -> u64
     ensures { λ r. ⌜ r ≡ entryOf castilian (oneFor point) ⌝ }
 {
     match point {
 TEXT
-arms low
+arms low '        '
 for parity in even odd; do
     sh tools/unlisted.sh $parity | awk '
     NR > 1 { print line }
     { line = (NR == 1 ? "        " : "        | ") $0 }
     END { print line " => AS_UNLISTED," }'
 done
+echo '        _ => match point {'
+arms far '            '
 cat <<'TEXT'
-        _ => 0, // there is no other
-    }
-}
-
-// A code point from 256 on.
-pub fn far(point: u32) -> u64
-    requires { ⌜ 256 ≤ point ⌝ }
-    ensures { λ r. ⌜ r ≡ entryOf castilian (oneFor point) ⌝ }
-{
-    match point {
-TEXT
-arms far
-cat <<'TEXT'
-        _ => AS_UNLISTED,
+            _ => AS_UNLISTED,
+        },
     }
 }
 TEXT

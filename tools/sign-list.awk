@@ -12,7 +12,7 @@
 #     U00AB 0xab low «
 #     U00AB 0x201c far “ as «
 #
-# The three tools/print-entries*.sh print from these lines.
+# The two tools/print-entries*.sh print from these lines.
 #
 # What is read: the table `castilian`, and by name each list that it is made of; `digitDots` in Sorts.antt; `lowerDots` and
 # the clauses of `ownCells` in Signs.antt; `replacements` in Normal.antt. So a new sign is a line there and nothing here. What

@@ -1,6 +1,6 @@
 #!/bin/sh
 # Prints the code points below 256 that have no sign, one to a line: the even ones or the odd ones (`even`, `odd`). They are those for which
-# tools/sign-list.awk names no arm. tools/print-entries.sh and tools/entries-proof.sh print from these lines.
+# tools/sign-list.awk names no arm. tools/print-entries.sh and tools/print-entries-proof.sh print from these lines.
 set -eu
 CDPATH='' cd "$(dirname "$0")/.."
 

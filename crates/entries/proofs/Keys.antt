@@ -42,12 +42,6 @@ told-of f (k ∷ l ∷ ks) c t o =
     ⊎-elim (λ e. subst (λ (n : ℕ). T (f n)) (sym e) (and-left (f k) (every f (l ∷ ks)) t))
     (λ later. told-of f (l ∷ ks) c (and-right (f k) (every f (l ∷ ks)) t) later) o
 
--- and those behind it: that it is none of them
-pub not-told : (ks : List ℕ) (c : ℕ) → (OneOf ks c → ⊥) → among ks c ≡ false
-not-told [] c r = refl
-not-told (k ∷ []) c r = rw (ne-eqb c k r)
-not-told (k ∷ l ∷ ks) c r = rw (ne-eqb c k (λ e. r (inl e))) (not-told (l ∷ ks) c (λ o. r (inr o)))
-
 -- what is chosen by a number that is none of the keys is what is left
 module _ {A : Type 0} where
   abbrev pub keysOf : List (ℕ × A) → List ℕ
@@ -106,13 +100,9 @@ absent (i ∷ tb) f c t e =
         absurd (rw w at (and-left (f (i .0)) (every (λ (i : Item). f (i .0)) tb) t))
     go false q ih = ih
 
--- The keys of one side of a bound: those of the other side pass `beyond`. Also each code point that is taken for one other is a key or beyond.
-pub none-of : (beyond : ℕ → Bool) (ks : List ℕ) (c : ℕ) → T (every (λ (i : Item). beyond (i .0) || among ks (i .0)) castilian)
-    → T (every (λ (r : Replacement). beyond (code (r .0)) || among ks (code (r .0)) || eqb (oneFor (code (r .0))) (code (r .0))) replacements)
-    → beyond c ≡ false → among ks c ≡ false → word noSign ≡ entryOf castilian (oneFor c)
+-- of the Castilian list, where each code point that is taken for one other passes the test too
+pub none-of : (listed : ℕ → Bool) (c : ℕ) → T (every (λ (i : Item). listed (i .0)) castilian)
+    → T (every (λ (r : Replacement). listed (code (r .0)) || eqb (oneFor (code (r .0))) (code (r .0))) replacements)
+    → listed c ≡ false → word noSign ≡ entryOf castilian (oneFor c)
 unfolding entryOf
-none-of beyond ks c t u a b =
-    let none : beyond c || among ks c ≡ false = rw (a, b) in
-    sym
-    (ap (entryOf castilian) (itself-else (λ k. beyond k || among ks k) u c none)
-    ∙ ap word (absent castilian (λ k. beyond k || among ks k) c t none))
+none-of listed c t u e = sym (ap (entryOf castilian) (itself-else listed u c e) ∙ ap word (absent castilian listed c t e))

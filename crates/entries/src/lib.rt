@@ -2,7 +2,6 @@
 // Its sign, the cells that it has by itself, is a word too (src/sign.rt).
 // A new field is a constant here and in specs/Entries.antt; a new state is one here and in specs/States.antt, and a row of the crate `deeds`.
 ghost use mathlib.Core.Path.{_≡_};
-ghost use Prim.Native.Nat.{_<_, _≤_};
 ghost use Rattle.rules.specs.Castilian.{castilian};
 ghost use Rattle.rules.proofs.Plain.{oneFor};
 ghost use Rattle.entries.specs.Entries.{entryOf, usualIn, thenIn, signIn, firstIn, lowerIn, classIn, markIn};
@@ -94,18 +93,11 @@ const THEN: u64 = 1152921504606846976; // the state after it where it is written
 
 const WORD_BITS: usize = 64;
 
-// Code points below this stand in one table that has no gaps: once compiled, the look-up is one read.
-const DENSE: u32 = 256;
-
 // The word of a code point. One that becomes another when it is normalised, as “ becomes «, has the word of that one.
 pub fn entry_of(point: u32) -> u64
     ensures { λ r. ⌜ r ≡ entryOf castilian (oneFor point) ⌝ }
 {
-    if point < DENSE {
-        list::low(point)
-    } else {
-        list::far(point)
-    }
+    list::word_of(point)
 }
 
 // Is it written as usual in this state: with its own cells alone? A pair mark never is. (A state is below 16, so that the remainder is the state.)

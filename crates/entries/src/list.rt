@@ -36,7 +36,6 @@ use crate::UNDER;
 use crate::UNLISTED;
 use crate::USUAL;
 ghost use mathlib.Core.Path.{_≡_};
-ghost use Prim.Native.Nat.{_<_, _≤_};
 ghost use Rattle.rules.specs.Castilian.{castilian};
 ghost use Rattle.rules.proofs.Plain.{oneFor};
 ghost use Rattle.entries.specs.Entries.{entryOf};
@@ -456,10 +455,10 @@ const UE000: u64 = AS_PAIR_MARK + COUNT * 1 + FIRST * D35 + OPENER + MARK * 2 * 
 
 const UE001: u64 = AS_PAIR_MARK + COUNT * 1 + FIRST * D35 + CLOSER + MARK * 2 * 4; // emphasis closes
 
-// A code point below 256. All 256 are named, so that the table, once compiled, is read without a test of where it begins and ends. (Those without a
-// sign are in two arms, the even ones and the odd: numbers that follow one another in one arm would be compiled to a test of their own.)
-pub fn low(point: u32) -> u64
-    requires { ⌜ point < 256 ⌝ }
+// The word of a code point. All below 256 are named, and the others are asked for behind them: once compiled, the table is read as soon as the code point is known to
+// be below 256, by the code point itself. (Those without a sign are in two arms, the even ones and the odd: numbers that follow one another in one arm would be
+// compiled to a test of their own. All in one `match` would be a jump and no table.)
+pub fn word_of(point: u32) -> u64
     ensures { λ r. ⌜ r ≡ entryOf castilian (oneFor point) ⌝ }
 {
     match point {
@@ -719,30 +718,22 @@ pub fn low(point: u32) -> u64
         | 0xfb
         | 0xfd
         | 0xff => AS_UNLISTED,
-        _ => 0, // there is no other
-    }
-}
-
-// A code point from 256 on.
-pub fn far(point: u32) -> u64
-    requires { ⌜ 256 ≤ point ⌝ }
-    ensures { λ r. ⌜ r ≡ entryOf castilian (oneFor point) ⌝ }
-{
-    match point {
-        0x2014 => U2014, // —
-        0x2018 => U2018, // ‘
-        0x2019 => U2019, // ’
-        0x201c => U00AB, // “ as «
-        0x201d => U00BB, // ” as »
-        0x2020 => U2020, // †
-        0x2030 => U2030, // ‰
-        0x2039 => U2018, // ‹ as ‘
-        0x203a => U2019, // › as ’
-        0x2044 => U2044, // ⁄
-        0x20ac => U20AC, // €
-        0x20bf => U20BF, // ₿
-        0xe000 => UE000, // emphasis opens
-        0xe001 => UE001, // emphasis closes
-        _ => AS_UNLISTED,
+        _ => match point {
+            0x2014 => U2014, // —
+            0x2018 => U2018, // ‘
+            0x2019 => U2019, // ’
+            0x201c => U00AB, // “ as «
+            0x201d => U00BB, // ” as »
+            0x2020 => U2020, // †
+            0x2030 => U2030, // ‰
+            0x2039 => U2018, // ‹ as ‘
+            0x203a => U2019, // › as ’
+            0x2044 => U2044, // ⁄
+            0x20ac => U20AC, // €
+            0x20bf => U20BF, // ₿
+            0xe000 => UE000, // emphasis opens
+            0xe001 => UE001, // emphasis closes
+            _ => AS_UNLISTED,
+        },
     }
 }

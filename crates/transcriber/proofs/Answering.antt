@@ -1,20 +1,23 @@
--- From what the passes answer to the promise. In order: what an answer tells; the answer to a normalised text is the rules' (`carried`). For any table.
+-- From what the passes answer to the promise. In order: what an answer tells; the answer to a normalised text is the rules' (`carried`); a print that is too long; an empty one.
+-- For any table.
 -- Assumes nothing.
 use mathlib.Core.Path.{_≡_, refl, sym, ap, _∙_, subst}
 use mathlib.Core.Bool.{Bool, true, false, cond, true≢false}
-use mathlib.Core.List.{List}
+use mathlib.Core.List.{List, [], _∷_}
 use mathlib.Core.Logic.{⊎-elim}
 use Prim.Native.Nat.{ℕ, _≤_, _<_}
+use native.Mathlib.Omega.{arith}
 use lib.Dec.{leb}
 use lib.ListN.{length}
 use borrow.Author.Tests.{le-leb, lt-leb}
 use Rattle.rules.specs.Cells.{Text, Row}
 use Rattle.rules.specs.Sorts.{Table}
 use Rattle.rules.specs.Places.{lacksSign, breaksPair, outsideForm, sharesCells}
-use Rattle.rules.specs.Rows.{Verdict, good, bad, verdictOf}
-use Rattle.rules.specs.Normal.{normalOf}
+use Rattle.rules.specs.Pairs.{openAfter, closedBelow, closed}
+use Rattle.rules.specs.Rows.{Verdict, good, bad, verdictOf, itemsIn, rowFrom, rowOf}
+use Rattle.rules.specs.Normal.{normalOf, normalAfter}
 use Rattle.rules.specs.Refusals.{tooLong, atFault, needsRoom, longestText, reported}
-use Rattle.rules.specs.Answers.{gives, refuses, PrintAnswer, print-refused, too-long}
+use Rattle.rules.specs.Answers.{gives, refuses, PrintAnswer, print-refused, transcribed, too-long}
 use Rattle.rules.proofs.Finite.{le-or-lt}
 use Rattle.rules.proofs.Rows.{whole-row}
 use Rattle.rules.proofs.Answers.{choose-le, choose-lt, by-verdict, answered, short-answer}
@@ -94,3 +97,9 @@ module _ (tb : Table) (p : Text) (lent : List ℕ) where
   promised-long n l e =
       refused (TooLong n) (tooLong n) refl
       (subst (λ (k : ℕ). PrintAnswer tb p (length lent) (refuses (tooLong k))) (sym e) (print-refused (tooLong (reported (length (normalOf p)))) (too-long l)))
+
+-- an empty print has the empty row
+pub promised-empty : (tb : Table) (p : Text) (lent : List ℕ) → length p ≡ 0 → Transcribed tb p lent (Done 0) lent
+unfolding normalOf normalAfter rowOf rowFrom itemsIn openAfter closed closedBelow
+promised-empty tb [] lent e = done [] (transcribed [] (omega arith) refl (omega arith))
+promised-empty tb (c ∷ p) lent e = absurd (omega arith)

@@ -1,28 +1,26 @@
--- Printed by tools/print-entries-low.sh: change that.
--- `list::low`: at each key antt computes both sides; a code point of the last two arms is none of the sign list's (`none-of`); and every one below 256 stands
--- in some arm. Assumes nothing.
+-- Printed by tools/print-entries-proof.sh: change that.
+-- `list::word_of`: at each key antt computes both sides; any other code point is none of the sign list's, and none that is looked up as another
+-- (`none-of`). Assumes nothing.
 use mathlib.Core.Path.{_≡_, sym, ap}
-use mathlib.Core.Bool.{false, _||_, not}
+use mathlib.Core.Bool.{Bool, false, _||_, not}
 use mathlib.Core.List.{List, [], _∷_}
-use Prim.Native.Nat.{ℕ, _<_}
-use lib.Dec.{T, leb}
-use borrow.Author.Tests.{lt-leb}
-use Rattle.rules.proofs.Finite.{below, at-below, false-of}
+use Prim.Native.Nat.{ℕ}
 use Rattle.rules.specs.Castilian.{castilian}
 use Rattle.rules.specs.Cells.{dots}
 use Rattle.rules.specs.Sorts.{noSign, class, isDigitCell}
 use Rattle.rules.specs.Signs.{ownCells, lowerCells}
 use Rattle.rules.specs.Pairs.{markOf}
 use Rattle.rules.specs.Rows.{sortIn}
+use Rattle.rules.proofs.Finite.{false-of}
 use Rattle.rules.proofs.Plain.{oneFor}
 use Rattle.entries.specs.SignWords.{signOf}
 use Rattle.entries.specs.Entries.{entryOf, word, thenOf, usualStates, bits, markNumber, usualsOf}
-use Rattle.entries.proofs.Keys.{among, none-of, rest-none, told-of, not-told}
-use Rattle.entries.proofs.list.low.Statement.{statement}
-use Rattle.entries.proofs.list.low.Tie as tie
+use Rattle.entries.proofs.Keys.{among, none-of, rest-none, told-of}
+use Rattle.entries.proofs.list.word_of.Statement.{statement}
+use Rattle.entries.proofs.list.word_of.Tie as tie
 
-keys : List ℕ
-keys =
+low : List ℕ
+low =
     0x20 ∷ 0x21 ∷ 0x24 ∷ 0x25 ∷ 0x26 ∷ 0x28 ∷ 0x29 ∷ 0x2c ∷ 0x2d ∷ 0x2e ∷ 0x2f ∷ 0x30 ∷ 0x31 ∷ 0x32 ∷ 0x33 ∷ 0x34 ∷ 0x35
     ∷ 0x36 ∷ 0x37 ∷ 0x38 ∷ 0x39 ∷ 0x3a ∷ 0x3b ∷ 0x3c ∷ 0x3d ∷ 0x3e ∷ 0x3f ∷ 0x41 ∷ 0x42 ∷ 0x43 ∷ 0x44 ∷ 0x45 ∷ 0x46
     ∷ 0x47 ∷ 0x48 ∷ 0x49 ∷ 0x4a ∷ 0x4b ∷ 0x4c ∷ 0x4d ∷ 0x4e ∷ 0x4f ∷ 0x50 ∷ 0x51 ∷ 0x52 ∷ 0x53 ∷ 0x54 ∷ 0x55 ∷ 0x56
@@ -31,9 +29,17 @@ keys =
     ∷ 0x7d ∷ 0xa1 ∷ 0xa2 ∷ 0xa3 ∷ 0xa5 ∷ 0xaa ∷ 0xab ∷ 0xba ∷ 0xbb ∷ 0xbf ∷ 0xc1 ∷ 0xc9 ∷ 0xcd ∷ 0xd1 ∷ 0xd3 ∷ 0xda
     ∷ 0xdc ∷ 0xe1 ∷ 0xe9 ∷ 0xed ∷ 0xf1 ∷ 0xf3 ∷ 0xfa ∷ 0xfc ∷ []
 
-unlisted : (c : ℕ) → c < 256 → among keys c ≡ false → word noSign ≡ entryOf castilian (oneFor c)
-unfolding keys oneFor entryOf word thenOf usualsOf usualStates bits markNumber signOf sortIn castilian class isDigitCell ownCells lowerCells markOf dots
-unlisted c l e = none-of (λ k. leb 256 k) keys c tt tt (lt-leb 256 c l) e
+far : List ℕ
+far =
+    0x2014 ∷ 0x2018 ∷ 0x2019 ∷ 0x201c ∷ 0x201d ∷ 0x2020 ∷ 0x2030 ∷ 0x2039 ∷ 0x203a ∷ 0x2044 ∷ 0x20ac ∷ 0x20bf ∷ 0xe000
+    ∷ 0xe001 ∷ []
+
+abbrev listed : ℕ → Bool
+listed k = among low k || among far k
+
+unlisted : (c : ℕ) → listed c ≡ false → word noSign ≡ entryOf castilian (oneFor c)
+unfolding low far oneFor entryOf word thenOf usualsOf usualStates bits markNumber signOf sortIn castilian class isDigitCell ownCells lowerCells markOf dots
+unlisted c e = none-of listed c tt tt e
 
 even : List ℕ
 even =
@@ -43,6 +49,12 @@ even =
     ∷ 0xbc ∷ 0xbe ∷ 0xc0 ∷ 0xc2 ∷ 0xc4 ∷ 0xc6 ∷ 0xc8 ∷ 0xca ∷ 0xcc ∷ 0xce ∷ 0xd0 ∷ 0xd2 ∷ 0xd4 ∷ 0xd6 ∷ 0xd8 ∷ 0xde
     ∷ 0xe0 ∷ 0xe2 ∷ 0xe4 ∷ 0xe6 ∷ 0xe8 ∷ 0xea ∷ 0xec ∷ 0xee ∷ 0xf0 ∷ 0xf2 ∷ 0xf4 ∷ 0xf6 ∷ 0xf8 ∷ 0xfe ∷ []
 
+even-told : tie.Need-returns-106
+unfolding low far even oneFor entryOf word thenOf usualsOf usualStates bits markNumber signOf sortIn castilian class isDigitCell ownCells lowerCells markOf dots
+even-told c =
+    let p : ℕ = c .before .args .point in
+    unlisted p (false-of (listed p) (told-of (λ k. not (listed k)) even p tt (c .match .keys106)))
+
 odd : List ℕ
 odd =
     0x1 ∷ 0x3 ∷ 0x5 ∷ 0x7 ∷ 0x9 ∷ 0xb ∷ 0xd ∷ 0xf ∷ 0x11 ∷ 0x13 ∷ 0x15 ∷ 0x17 ∷ 0x19 ∷ 0x1b ∷ 0x1d ∷ 0x1f ∷ 0x23 ∷ 0x27
@@ -51,36 +63,21 @@ odd =
     ∷ 0xc5 ∷ 0xc7 ∷ 0xcb ∷ 0xcf ∷ 0xd5 ∷ 0xd7 ∷ 0xd9 ∷ 0xdb ∷ 0xdd ∷ 0xdf ∷ 0xe3 ∷ 0xe5 ∷ 0xe7 ∷ 0xeb ∷ 0xef ∷ 0xf5
     ∷ 0xf7 ∷ 0xf9 ∷ 0xfb ∷ 0xfd ∷ 0xff ∷ []
 
-even-told : tie.Need-returns-106
-unfolding keys even oneFor entryOf word thenOf usualsOf usualStates bits markNumber signOf sortIn castilian class isDigitCell ownCells lowerCells markOf dots
-even-told c =
-    let p : ℕ = c .before .args .point in
-    unlisted p (c .before .pre) (false-of (among keys p) (told-of (λ k. not (among keys k)) even p tt (c .match .keys106)))
-
 odd-told : tie.Need-returns-107
-unfolding keys odd oneFor entryOf word thenOf usualsOf usualStates bits markNumber signOf sortIn castilian class isDigitCell ownCells lowerCells markOf dots
+unfolding low far odd oneFor entryOf word thenOf usualsOf usualStates bits markNumber signOf sortIn castilian class isDigitCell ownCells lowerCells markOf dots
 odd-told c =
     let p : ℕ = c .before .args .point in
-    unlisted p (c .before .pre) (false-of (among keys p) (told-of (λ k. not (among keys k)) odd p tt (c .match .keys107)))
+    unlisted p (false-of (listed p) (told-of (λ k. not (listed k)) odd p tt (c .match .keys107)))
 
-all-told : T (below (λ k. among keys k || (among even k || among odd k)) 256)
-unfolding keys even odd
-all-told = tt
-
-untold : (c : ℕ) → c < 256 → among keys c ≡ false → among even c ≡ false → among odd c ≡ false → ⊥
-untold c l p q r = rw (p, q, r) at (at-below (λ k. among keys k || (among even k || among odd k)) 256 all-told c l)
-
-other : tie.Need-returns-108
-unfolding keys even odd
+other : tie.Need-returns-122
+unfolding low far oneFor entryOf word thenOf usualsOf usualStates bits markNumber signOf sortIn castilian class isDigitCell ownCells lowerCells markOf dots
 other c =
-    let p : ℕ = c .before .args .point in
-    absurd
-    (untold p (c .before .pre) (rest-none Unit keys p (c .match .rest .0 .0) .1) (not-told even p (c .match .rest .0 .1))
-    (not-told odd p (c .match .rest .1)))
+    let p : ℕ = c .before .before .args .point in
+    unlisted p (rw (rest-none Unit low p (c .before .match .rest .0 .0) .1, rest-none Unit far p (c .match2 .rest) .1))
 
-pub low-spec : {M : Type 1} → statement M
+pub word-of-spec : {M : Type 1} → statement M
 unfolding oneFor entryOf word thenOf usualsOf usualStates bits markNumber signOf sortIn castilian class isDigitCell ownCells lowerCells markOf dots
-low-spec =
+word-of-spec =
     tie.close
     (tie.spec
     (λ c. sym (ap (λ (k : ℕ). entryOf castilian (oneFor k)) (c .match .keys1)))
@@ -190,4 +187,18 @@ low-spec =
     (λ c. sym (ap (λ (k : ℕ). entryOf castilian (oneFor k)) (c .match .keys105)))
     even-told
     odd-told
+    (λ c. sym (ap (λ (k : ℕ). entryOf castilian (oneFor k)) (c .match2 .keys1)))
+    (λ c. sym (ap (λ (k : ℕ). entryOf castilian (oneFor k)) (c .match2 .keys2)))
+    (λ c. sym (ap (λ (k : ℕ). entryOf castilian (oneFor k)) (c .match2 .keys3)))
+    (λ c. sym (ap (λ (k : ℕ). entryOf castilian (oneFor k)) (c .match2 .keys4)))
+    (λ c. sym (ap (λ (k : ℕ). entryOf castilian (oneFor k)) (c .match2 .keys5)))
+    (λ c. sym (ap (λ (k : ℕ). entryOf castilian (oneFor k)) (c .match2 .keys6)))
+    (λ c. sym (ap (λ (k : ℕ). entryOf castilian (oneFor k)) (c .match2 .keys7)))
+    (λ c. sym (ap (λ (k : ℕ). entryOf castilian (oneFor k)) (c .match2 .keys8)))
+    (λ c. sym (ap (λ (k : ℕ). entryOf castilian (oneFor k)) (c .match2 .keys9)))
+    (λ c. sym (ap (λ (k : ℕ). entryOf castilian (oneFor k)) (c .match2 .keys10)))
+    (λ c. sym (ap (λ (k : ℕ). entryOf castilian (oneFor k)) (c .match2 .keys11)))
+    (λ c. sym (ap (λ (k : ℕ). entryOf castilian (oneFor k)) (c .match2 .keys12)))
+    (λ c. sym (ap (λ (k : ℕ). entryOf castilian (oneFor k)) (c .match2 .keys13)))
+    (λ c. sym (ap (λ (k : ℕ). entryOf castilian (oneFor k)) (c .match2 .keys14)))
     other)
