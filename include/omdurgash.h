@@ -1,9 +1,9 @@
 /*
  * Omdurgash for C: Spanish print to six-dot braille cells, and back. C99; also C++.
  *
- * Build the library in the top folder of the repository, and link it (x86-64 Linux):
+ * Build the library in the top folder of the repository, and link it (Linux, x86-64 or aarch64):
  *
- *     rt staticlib desk
+ *     ./desk library
  *     cc -I include PROGRAM.c target/staticlib/libdesk.a -o PROGRAM
  *
  * example.c, beside this file, is a program to begin with.

@@ -1,4 +1,4 @@
-//! Finds the archive that `rt staticlib desk` writes and has it linked into this crate.
+//! Finds the archive that `./desk library` writes and has it linked into this crate.
 use std::env::var_os;
 use std::path::PathBuf;
 use std::process::exit;
@@ -25,7 +25,7 @@ fn main() {
     println!("cargo:rerun-if-changed={}", archive.display());
     if !archive.is_file() {
         eprintln!("There is no {}", archive.display());
-        eprintln!("In the top folder of the repository of Omdurgash, run: rt staticlib desk");
+        eprintln!("In the top folder of the repository of Omdurgash, run: ./desk library");
         eprintln!("If libdesk.a is elsewhere, have {ELSEWHERE} name the folder that holds it.");
         exit(1);
     }

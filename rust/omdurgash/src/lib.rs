@@ -42,9 +42,9 @@
 //!
 //! # Linking
 //!
-//! `rt staticlib desk`, in the top folder of the repository, writes `target/staticlib/libdesk.a`, and this crate links it: also where
+//! `./desk library`, in the top folder of the repository, writes `target/staticlib/libdesk.a`, and this crate links it: also where
 //! another workspace names the crate by its path. If the archive is elsewhere, the environment variable `OMDURGASH_LIB_DIR` names the
-//! folder that holds it, by its whole path. It links into x86-64 programs only.
+//! folder that holds it, by its whole path. It is made for the machine that it is built on: Linux on x86-64 or on Arm (aarch64).
 #![deny(unsafe_code)]
 
 // A new function of the library is declared in `calls` and in `include/omdurgash.h`; `refusal` tells what a new refusal changes.
