@@ -88,8 +88,8 @@ but n [] = []
 but n (m ∷ ms) = cond (eqb n m) (but n ms) (m ∷ but n ms)
 
 unfoldable pub usualStates : Class → List ℕ
-usualStates aToJ = but number (but under (but guarded every))
-usualStates otherSmall = every
+usualStates aToJ = but capitals (but number (but under (but guarded every)))
+usualStates otherSmall = but capitals every
 usualStates capital = capitals ∷ []
 usualStates one = number ∷ []
 usualStates otherDigit = number ∷ []
