@@ -44,6 +44,11 @@ module _ (d : ℕ) (f : Future) (e : d ≡ act.beginsRun) where
   unfolding settledBy
   settled-alone q = rw (e, q)
 
+  pub settled-mixed : mixed-next f ≡ true → act.capitalAlone ≡ settledBy d f
+  settled-mixed q =
+      settled-alone (false-of (caps-next f)
+      (implies (mixed-next f) (not (caps-next f)) (rw q tt) (futures .at (λ f. not (mixed-next f) || not (caps-next f)) tt f)))
+
 -- the others, decided by what is found (b) of what follows
 module _ (d : ℕ) (f : Future) (b v : Bool) (found : b ≡ v) where
   pub settled-number : d ≡ act.beginsNumber → b ≡ form-next f → cond v act.firstOfForm act.firstOfNumber ≡ settledBy d f

@@ -67,12 +67,22 @@ module _ (tb : Table) (none-at-zero : class (sortIn tb 0) ≡ unlisted) where
   unfolding look
   mark-at text i = ap mark-next (future-step text i) ∙ seen mark-next (λ c f. isOrdinal c) tt (classAt tb text i) (futureAt tb text (i + 1))
 
-  -- a run: what is no capital decides whether a small letter is in it
-  pub small-at : (text : List ℕ) (i : ℕ) → isCapital (classAt tb text i) ≡ false → mixed-next (futureAt tb text i) ≡ isSmall (classAt tb text i)
+  -- a run: a small letter is in it if one stands there, and none is if no letter does
+  pub small-here : (text : List ℕ) (i : ℕ) → isSmall (classAt tb text i) ≡ true → mixed-next (futureAt tb text i) ≡ true
   unfolding look
-  small-at text i e =
+  small-here text i e = ap mixed-next (future-step text i) ∙ seen-where isSmall mixed-next (λ c f. true) tt (classAt tb text i) (futureAt tb text (i + 1)) e
+
+  pub no-letter-here : (text : List ℕ) (i : ℕ) → isCapital (classAt tb text i) ≡ false → isSmall (classAt tb text i) ≡ false
+      → mixed-next (futureAt tb text i) ≡ false
+  unfolding look
+  no-letter-here text i e q =
       ap mixed-next (future-step text i)
-      ∙ seen-where (λ c. not (isCapital c)) mixed-next (λ c f. isSmall c) tt (classAt tb text i) (futureAt tb text (i + 1)) (ap not e)
+      ∙ seen-where (λ c. not (isCapital c || isSmall c)) mixed-next (λ c f. false) tt (classAt tb text i) (futureAt tb text (i + 1)) (rw (e, q))
+
+  pub end-here : (text : List ℕ) (i : ℕ) → length text ≤ i → mixed-next (futureAt tb text i) ≡ false
+  end-here text i l =
+      let e : classAt tb text i ≡ unlisted = ap (λ (c : ℕ). class (sortIn tb c)) (List·getD-eq-default text 0 l) ∙ none-at-zero in
+      no-letter-here text i (ap isCapital e) (ap isSmall e)
 
   capitals-at : (text : List ℕ) (i : ℕ) → caps-next (futureAt tb text i) ≡ isCapital (classAt tb text i) && not (mixed-next (futureAt tb text i))
   unfolding look
