@@ -6,7 +6,6 @@ use lib.Dec.{ltb}
 use borrow.Author.Needs.{needs}
 use borrow.Author.Tests.{eq-eqb, ne-eqb}
 use Rattle.rules.specs.Sorts.{classNumber, capital}
-use Rattle.entries.specs.States.{capitals}
 use Rattle.entries.specs.Entries.{classIn}
 use Rattle.passes.proofs.is_small_among_capitals.Statement.{statement}
 use Rattle.passes.proofs.is_small_among_capitals.Tie as tie
@@ -21,12 +20,12 @@ returns : tie.Need-returns
 returns c =
     let s = c .before .before in
     ap (λ (k : ℕ). ltb k (classNumber capital)) (c .class-in .ensures)
-    ∙ sym (ap (λ (b : Bool). b && ltb (classIn (s .args .entry)) (classNumber capital)) (eq-eqb (s .args .state) capitals (c .before .if1 .taken)))
+    ∙ sym (ap (λ (b : Bool). b && ltb (classIn (s .args .entry)) (classNumber capital)) (eq-eqb (s .args .state) _ (c .before .if1 .taken)))
 
 returns-2 : tie.Need-returns-2
 returns-2 c =
     let s = c .before in
-    let e = ne-eqb (s .args .state) capitals (c .if1 .left) in
+    let e = ne-eqb (s .args .state) _ (c .if1 .left) in
     e ∙ sym (ap (λ (b : Bool). b && ltb (classIn (s .args .entry)) (classNumber capital)) e)
 
 pub is-small-among-capitals-spec : {M : Type 1} → statement M
