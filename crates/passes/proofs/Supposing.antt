@@ -11,13 +11,12 @@ use lib.Dec.{eqb, ltb}
 use lib.ListN.{length, take, getD, set, length-set}
 use lib.Seq.{take-set-lt, getD-take, getD-set-same, set-set}
 use borrow.Author.Tests.{eqb-true}
-use Rattle.rules.specs.Sorts.{Table, class, classNumber, capital}
-use Rattle.rules.specs.Rows.{sortIn}
+use Rattle.rules.specs.Sorts.{Table, classNumber, capital}
 use Rattle.rules.proofs.Finite.{beq-same}
 use Rattle.rules.proofs.States.{Future}
 use Rattle.rules.proofs.Enumerations.{classes}
 use Rattle.rules.proofs.Sides.{mixed-next, row-on}
-use Rattle.entries.specs.States.{capitals, mixed, states}
+use Rattle.entries.specs.States.{capitals, mixed}
 use Rattle.entries.specs.SignWords.{countOf, signOfTwo, thirdOf}
 use Rattle.entries.specs.Entries.{entryOf, classIn, usualIn, firstIn}
 use Rattle.deeds.specs.Acts as act
@@ -31,6 +30,7 @@ use Rattle.passes.specs.Middle.{Mid, Supposing, Carried}
 use Rattle.passes.specs.declared.Reached.{Reached}
 use Rattle.passes.proofs.Going.{Held}
 use Rattle.passes.proofs.Drawing.{Passed, state-small, went-deed, mid-on}
+use Rattle.passes.proofs.Carrying.{two-cells}
 
 -- tests that are true together, and a choice that is false
 and-true : (a b : Bool) → a && b ≡ true → (a ≡ true) × (b ≡ true)
@@ -46,14 +46,10 @@ first-alone : (e : ℕ) → aloneOf (signBy act.allCapitalsWay e) ≡ signBy act
 unfolding signBy
 first-alone e = let q : thirdOf (signBy act.allCapitalsWay e) ≡ firstIn e = omega arith in ap (signOfTwo dots46) q
 
--- with one cell less
+-- it had three cells, and has two (`two-cells`)
 first-count : (e : ℕ) → countOf (signBy act.allCapitalsWay e) ≡ 3
 unfolding signBy
 first-count e = omega arith
-
-alone-count : (e : ℕ) → 2 ≡ countOf (signBy act.oneCapitalWay e)
-unfolding signBy
-alone-count e = omega arith
 
 module _ (tb : Table) (h : Held tb) (text signs₀ : List ℕ) where
   -- of the signs it looks at those before its place
@@ -200,7 +196,7 @@ module _ (tb : Table) (h : Held tb) (text signs₀ : List ℕ) where
           alone =
               mid-on tb h text signs₀ signs opened state n i m l opens p (signBy act.oneCapitalWay e) mixed 2
               (went-deed tb h text (m .past) i state (m .at) act.capitalAlone (settled-mixed (deedOf state (classIn e)) ahead asked small) (omega arith)
-              (signBy act.oneCapitalWay e) mixed refl refl) (alone-count e) _ (count - 1) made (omega (arith, is-count, three))
+              (signBy act.oneCapitalWay e) mixed refl refl) (two-cells e) _ (count - 1) made (omega (arith, is-count, three))
 
       pub turned : Supposed (deedOf state (classIn e)) ahead d → Supposing tb text signs₀ new opens (d / act.ways) count (i + 1)
       turned (inl q) = settled-so q
