@@ -1,7 +1,7 @@
 -- The table is what the rules say: one test that antt computes over past, class and future (`turn-is`). Then what `settled` makes of a question
--- and of anything else; what is written as usual; and what a deed says of its outcome. Assumes nothing.
+-- and of anything else; what is written as usual, and what it leaves of a run of capitals; and what a deed says of its outcome. Assumes nothing.
 use mathlib.Core.Path.{_≡_, refl, sym, ap, _∙_, subst}
-use mathlib.Core.Bool.{Bool, true, false, _&&_, _||_, not, cond, true≢false}
+use mathlib.Core.Bool.{Bool, true, false, _&&_, _||_, not, cond, Bool·beq, true≢false}
 use mathlib.Core.List.{List, [], _∷_}
 use Prim.Native.Nat.{ℕ, _+_, _*_, _/_, _%_, _^_, _<_}
 use native.Mathlib.Omega.{arith}
@@ -10,10 +10,10 @@ use borrow.Author.Tests.{ne-eqb}
 use Rattle.rules.specs.Sorts.{Class, classNumber, capital}
 use Rattle.rules.specs.Signs.{Way}
 use Rattle.rules.specs.Places.{lacksSign, breaksPair, outsideForm, sharesCells, Outcome, fault, silent, sign}
-use Rattle.rules.proofs.Finite.{below, at-below, every, every2, at2, every3, at3, implies, hold, holds, Hold}
+use Rattle.rules.proofs.Finite.{below, at-below, every, every2, at2, every3, at3, implies, false-of, T-of-eqb, beq-same, hold, holds, Hold}
 use Rattle.rules.proofs.States.{Past, Future}
 use Rattle.rules.proofs.Enumerations.{pasts, classes, futures, ways}
-use Rattle.rules.proofs.Sides.{caps-next, form-next, digit-next, rule, look, after}
+use Rattle.rules.proofs.Sides.{caps-next, mixed-next, form-next, digit-next, rule, look, after}
 use Rattle.entries.specs.States as state
 use Rattle.entries.specs.Entries.{thenOf, usualStates, bits}
 use Rattle.deeds.specs.Acts as act
@@ -34,12 +34,23 @@ turn-is p c f =
     eqb→eq (settledBy (deedOf (stageAt p (look c f)) (classNumber c)) f) (actOf c (rule p c f) (stageAt (after p c) f))
     (at3 pasts classes futures turn-right turns-right p c f)
 
--- QUESTIONS, decided by what is found (b) of what follows
-module _ (d : ℕ) (f : Future) (b v : Bool) (found : b ≡ v) where
-  pub settled-run : d ≡ act.beginsRun → b ≡ caps-next f → cond v act.firstOfCapitals act.capitalAlone ≡ settledBy d f
+-- QUESTIONS. Of a run of capitals only its first is one of many; that is supposed where a capital follows, and wrong where a small letter is in the run.
+module _ (d : ℕ) (f : Future) (e : d ≡ act.beginsRun) where
+  pub settled-capitals : caps-next f ≡ true → act.firstOfCapitals ≡ settledBy d f
   unfolding settledBy
-  settled-run e q = rw e (ap (λ (x : Bool). cond x act.firstOfCapitals act.capitalAlone) (sym found ∙ q))
+  settled-capitals q = rw (e, q)
 
+  pub settled-alone : caps-next f ≡ false → act.capitalAlone ≡ settledBy d f
+  unfolding settledBy
+  settled-alone q = rw (e, q)
+
+  pub settled-mixed : mixed-next f ≡ true → act.capitalAlone ≡ settledBy d f
+  settled-mixed q =
+      settled-alone (false-of (caps-next f)
+      (implies (mixed-next f) (not (caps-next f)) (rw q tt) (futures .at (λ f. not (mixed-next f) || not (caps-next f)) tt f)))
+
+-- the others, decided by what is found (b) of what follows
+module _ (d : ℕ) (f : Future) (b v : Bool) (found : b ≡ v) where
   pub settled-number : d ≡ act.beginsNumber → b ≡ form-next f → cond v act.firstOfForm act.firstOfNumber ≡ settledBy d f
   unfolding settledBy
   settled-number e q = rw e (ap (λ (x : Bool). cond x act.firstOfForm act.firstOfNumber) (sym found ∙ q))
@@ -95,6 +106,54 @@ usual-is s c f l e =
     both true true t = tt
     both true false t = t
     both false d t = t
+
+-- A RUN OF CAPITALS. Nothing that is written as usual leads to one, save where it goes on; and there a small letter follows if it still does behind what
+-- goes on with the run, and otherwise not.
+runs-right : ℕ → Class → Future → List Bool
+runs-right s c f =
+    (not (eqb (thenOf c) state.capitals) || eqb s state.capitals)
+    ∷ (not (eqb s state.capitals) || Bool·beq (mixed-next (look c f)) (cond (eqb (thenOf c) state.capitals) (mixed-next f) false))
+    ∷ []
+
+usual-run-right : ℕ → Class → Future → Bool
+usual-run-right s c f = not (eqb (bits (usualStates c) / 2 ^ (s % 64) % 2) 1) || holds (runs-right s c f)
+
+usual-runs-right : T (below (λ s. every2 classes futures (usual-run-right s)) state.states)
+unfolding usual-run-right runs-right bits usualStates thenOf look
+usual-runs-right = tt
+
+module _ (s : ℕ) (c : Class) (f : Future) (l : s < state.states) (e : bits (usualStates c) / 2 ^ (s % 64) % 2 ≡ 1) where
+  runs-held : Hold (runs-right s c f)
+  unfolding usual-run-right
+  runs-held =
+      hold (runs-right s c f)
+      (implies (eqb (bits (usualStates c) / 2 ^ (s % 64) % 2) 1) (holds (runs-right s c f)) (rw e tt)
+      (at2 classes futures (usual-run-right s) (at-below (λ s. every2 classes futures (usual-run-right s)) state.states usual-runs-right s l) c f))
+
+  pub usual-from-capitals : thenOf c ≡ state.capitals → s ≡ state.capitals
+  unfolding runs-right
+  usual-from-capitals q =
+      eqb→eq s state.capitals (implies (eqb (thenOf c) state.capitals) (eqb s state.capitals) (T-of-eqb (thenOf c) q) (runs-held .0))
+
+  pub usual-in-capitals : s ≡ state.capitals → mixed-next (look c f) ≡ cond (eqb (thenOf c) state.capitals) (mixed-next f) false
+  unfolding runs-right
+  usual-in-capitals q =
+      beq-same (mixed-next (look c f)) (cond (eqb (thenOf c) state.capitals) (mixed-next f) false)
+      (implies (eqb s state.capitals) (Bool·beq (mixed-next (look c f)) (cond (eqb (thenOf c) state.capitals) (mixed-next f) false)) (T-of-eqb s q) (runs-held .1 .0))
+
+-- where a place is in a run of capitals, no small letter is ahead in it
+capitals-right : Past → Future → Bool
+capitals-right p f = not (eqb (stageAt p f) state.capitals) || not (mixed-next f)
+
+all-capitals-right : T (every2 pasts futures capitals-right)
+unfolding capitals-right stageAt
+all-capitals-right = tt
+
+pub capitals-only : (p : Past) (f : Future) → stageAt p f ≡ state.capitals → mixed-next f ≡ false
+unfolding capitals-right
+capitals-only p f e =
+    false-of (mixed-next f)
+    (implies (eqb (stageAt p f) state.capitals) (not (mixed-next f)) (T-of-eqb (stageAt p f) e) (at2 pasts futures capitals-right all-capitals-right p f))
 
 -- WHAT A DEED SAYS. Every state is one of the list.
 stages-small : T (every2 pasts futures (λ p f. ltb (stageAt p f) state.states))

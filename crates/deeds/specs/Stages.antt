@@ -1,7 +1,9 @@
 -- What the table means in the rules' words. In order: the state of a place, from what stands before it and from it on; the deed there, as the table
 -- has it and as the rules have it. Past, future and `rule` are those of the rules' proofs (crates/rules/proofs/Sides.antt):
 -- inner promises may speak of them, the public one does not. Assumes nothing.
-use mathlib.Core.Bool.{cond}
+use mathlib.Core.Bool.{true, cond}
+use mathlib.Core.Logic.{_⊎_}
+use mathlib.Core.Path.{_≡_}
 use Prim.Native.Nat.{ℕ, _+_, _*_, _%_}
 use lib.Dec.{eqb}
 use lib.ListN.{getD}
@@ -44,6 +46,10 @@ settledBy d f =
     (cond (eqb d act.beginsNumber) (cond (form-next f) act.firstOfForm act.firstOfNumber)
     (cond (eqb d act.numberPoint) (cond (digit-next f) act.pointInside act.pointAfter)
     (cond (eqb d act.oneUnder) (cond (digit-next f) act.digitUnder act.sharesCells) d)))
+
+-- the same, with a run supposed: its first capital is taken for that of a run of capitals only, though a small letter is in it
+abbrev pub Supposed : ℕ → Future → ℕ → Type 0
+Supposed d f r = (r ≡ settledBy d f) ⊎ ((r ≡ act.firstOfCapitals) × (d ≡ act.beginsRun) × (mixed-next f ≡ true))
 
 -- the number of a way of writing: a denominator's first digit, º or ª of an ordinal and a point inside a number have their own cells
 unfoldable pub wayOf : Way → ℕ

@@ -1,17 +1,17 @@
 -- The fields of a word: one test of every sort of a sign list, and the law that it gives at each code point. Assumes nothing.
 use mathlib.Core.Path.{_≡_}
-use mathlib.Core.Bool.{Bool, true, _&&_, _||_, not}
+use mathlib.Core.Bool.{Bool, true, _&&_, _||_, not, Bool·beq}
 use mathlib.Core.List.{List, [], _∷_}
 use Prim.Native.Nat.{ℕ, _/_, _%_, _^_, _<_}
 use lib.Dec.{T, eqb, ltb, eqb→eq, ltb→lt}
 use Rattle.rules.specs.Cells.{dots}
-use Rattle.rules.specs.Sorts.{Sort, Table, class, classNumber, isDigitCell}
+use Rattle.rules.specs.Sorts.{Sort, Table, capital, class, classNumber, _is_, isDigitCell}
 use Rattle.rules.specs.Signs.{ownCells, lowerCells}
 use Rattle.rules.specs.Pairs.{markOf}
 use Rattle.rules.specs.Rows.{sortIn}
 use Rattle.rules.specs.Castilian.{castilian}
-use Rattle.rules.proofs.Finite.{holds, Hold, hold, below, at-below, implies, and-left, and-right}
-use Rattle.entries.specs.States.{states}
+use Rattle.rules.proofs.Finite.{holds, Hold, hold, below, at-below, implies, and-left, and-right, beq-same}
+use Rattle.entries.specs.States.{capitals, states}
 use Rattle.entries.specs.SignWords.{signOf}
 use Rattle.entries.specs.Entries.{classIn, markIn, thenIn, usualIn, thenOf, usualStates, bits, marks, markNumber, usualsOf, word, entryOf}
 use Rattle.entries.proofs.Keys.{at-every}
@@ -27,6 +27,7 @@ facts s =
     ∷ ltb (markIn (word s)) marks
     ∷ eqb (thenIn (word s)) (thenOf (class s))
     ∷ below (usual-right (word s) (bits (usualStates (class s)))) states
+    ∷ (not (class s is capital) || Bool·beq (usualIn (word s) capitals) true)
     ∷ []
 
 -- a table whose words have their fields
@@ -38,6 +39,7 @@ pub record Worded (tb : Table) : Type 0 where
   pub usual-unmarked : (c s : ℕ) → s < states → usualIn (entryOf tb c) s ≡ true → markIn (entryOf tb c) ≡ 0
   pub usual-class : (c s : ℕ) → s < states → usualIn (entryOf tb c) s ≡ true
       → bits (usualStates (class (sortIn tb c))) / 2 ^ (s % 64) % 2 ≡ 1
+  pub capital-usual : (c : ℕ) → (class (sortIn tb c) is capital) ≡ true → usualIn (entryOf tb c) capitals ≡ true
 
 tested : (c : ℕ) → T (holds (facts (sortIn castilian c)))
 unfolding facts usual-right word thenOf usualsOf usualStates bits markNumber signOf castilian class isDigitCell ownCells lowerCells markOf dots
@@ -68,4 +70,7 @@ worded =
       usual-class =
           λ c s l e. eqb→eq (bits (usualStates (class (sortIn castilian c))) / 2 ^ (s % 64) % 2) 1
           (and-right (eqb (markIn (entryOf castilian c)) 0) (eqb (bits (usualStates (class (sortIn castilian c))) / 2 ^ (s % 64) % 2) 1) (usual-at c s l e));
+      capital-usual =
+          λ c e. beq-same (usualIn (entryOf castilian c) capitals) true
+          (implies (class (sortIn castilian c) is capital) (Bool·beq (usualIn (entryOf castilian c) capitals) true) (rw e tt) (at c .1 .1 .1 .1 .1 .0));
     }

@@ -79,7 +79,7 @@ thenOf aPercent = free
 thenOf otherSign = free
 thenOf unlisted = free
 
--- the states in which it is
+-- the states in which it is. (A small letter in a run that was supposed to be of capitals only is not: such a run is drawn anew, `Supposing` of the crate `passes`.)
 abbrev every : List ℕ
 every = free ∷ capitals ∷ mixed ∷ number ∷ lowered ∷ ordinal ∷ barred ∷ under ∷ guarded ∷ hyphened ∷ dashed ∷ []
 
@@ -88,8 +88,8 @@ but n [] = []
 but n (m ∷ ms) = cond (eqb n m) (but n ms) (m ∷ but n ms)
 
 unfoldable pub usualStates : Class → List ℕ
-usualStates aToJ = but number (but under (but guarded every))
-usualStates otherSmall = every
+usualStates aToJ = but capitals (but number (but under (but guarded every)))
+usualStates otherSmall = but capitals every
 usualStates capital = capitals ∷ []
 usualStates one = number ∷ []
 usualStates otherDigit = number ∷ []

@@ -1,4 +1,5 @@
 pub mod Going
 pub mod Drawing
 pub mod Carrying
+pub mod Supposing
 pub mod Fitting

@@ -1,19 +1,20 @@
 -- What the passes over a text promise: the sign of a word by its way; what the first pass finds; the answer to a normalised text. Not here: what the second
 -- pass writes (`Joined` of the crate `writing`). Assumes nothing.
-use mathlib.Core.Bool.{cond}
+use mathlib.Core.Bool.{Bool, _&&_, cond}
 use mathlib.Core.List.{List, [], _∷_}
 use mathlib.Core.Path.{_≡_}
 use Prim.Native.Nat.{ℕ}
-use lib.Dec.{leb}
+use lib.Dec.{eqb, leb, ltb}
 use lib.ListN.{length}
 use Rattle.rules.specs.Cells.{Text, Row}
-use Rattle.rules.specs.Sorts.{Table}
+use Rattle.rules.specs.Sorts.{Table, capital, classNumber}
 use Rattle.rules.specs.Places.{lacksSign, breaksPair, outsideForm, sharesCells}
 use Rattle.rules.specs.Rows.{Verdict, good, bad, verdictOf}
 use Rattle.rules.proofs.Rows.{whole-row}
 use Rattle.entries.specs.Chosen.{choose}
-use Rattle.entries.specs.SignWords.{cellsIn, signOfOne, signOfTwo, signOfThree}
-use Rattle.entries.specs.Entries.{signIn, firstIn, lowerIn}
+use Rattle.entries.specs.SignWords.{thirdOf, cellsIn, signOfOne, signOfTwo, signOfThree}
+use Rattle.entries.specs.States.{capitals}
+use Rattle.entries.specs.Entries.{classIn, signIn, firstIn, lowerIn}
 use Rattle.deeds.specs.Acts as act
 use Rattle.rows.specs.Laid.{laid}
 use Rattle.writing.specs.Joined.{joined}
@@ -23,7 +24,7 @@ use Rattle.passes.specs.declared.Measured.{Measured}
 use Rattle.passes.specs.declared.Measured.the-variants.{Cells, Refused}
 
 -- THE SIGN of a word, by its way of writing: the cells before its own, and its own or the lower digit's
-abbrev dots46 : ℕ
+abbrev pub dots46 : ℕ
 dots46 = 40
 
 abbrev dots5 : ℕ
@@ -49,7 +50,14 @@ signBy w e = choose (waysOf e) w noCell
 abbrev pub cellsBy : ℕ → ℕ → Row
 cellsBy w e = cellsIn (signBy w e)
 
--- THE FIRST PASS
+-- of a capital alone, from its sign as the first of a run of capitals
+abbrev pub aloneOf : ℕ → ℕ
+aloneOf w = signOfTwo dots46 (thirdOf w)
+
+-- THE FIRST PASS. A small letter in a run that is supposed to be of capitals only. (The classes below `capital` are those of small letters.)
+abbrev pub smallAmongCapitals : ℕ → ℕ → Bool
+smallAmongCapitals s e = eqb s capitals && ltb (classIn e) (classNumber capital)
+
 abbrev pub faults : ℕ → List (ℕ × Answer)
 faults i = (act.noSign, NoSign i) ∷ (act.outsideForm, OutsideForm i) ∷ []
 

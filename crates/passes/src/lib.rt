@@ -13,18 +13,20 @@ use deeds::QUESTIONS;
 use deeds::SEPARATED;
 use deeds::WAYS;
 use entries::CAPITAL;
+use entries::CAPITALS;
 use entries::FREE;
 use entries::MIXED;
 use pairs::Pairs;
 ghost use mathlib.Core.Path.{_≡_};
-ghost use Prim.Native.Nat.{_≤_, _*_};
+ghost use Prim.Native.Nat.{_≤_, _<_, _*_};
 ghost use lib.ListN.{length, take};
 ghost use Rattle.rules.specs.Castilian.{castilian};
 ghost use Rattle.rules.specs.Refusals.{longestText};
 ghost use Rattle.rules.proofs.Plain.{plainly};
+ghost use Rattle.entries.specs.States.{states};
 ghost use Rattle.writing.specs.Joined.{joined};
 ghost use Rattle.passes.specs.Middle.{Carried};
-ghost use Rattle.passes.specs.Passes.{signBy, faultBy, measuredOf, Drawn, fittedBy, writtenBy, answerOf, outOf};
+ghost use Rattle.passes.specs.Passes.{signBy, aloneOf, smallAmongCapitals, faultBy, measuredOf, Drawn, fittedBy, writtenBy, answerOf, outOf};
 
 // The answer to a print. `Done` has the count of cells written; any other is a refusal, and the lent row is then as it was. Paper 01's number and second
 // number for each are given with the promise (`refusalOf` of the crate `transcriber`).
@@ -96,6 +98,20 @@ fn sign_of(way: usize, entry: u64) -> u32
     }
 }
 
+// The sign of a capital alone, from its sign as the first of a run of capitals: 46 and its cell for 46-46 and its cell.
+fn alone(sign: u32) -> u32
+    ensures { λ r. ⌜ r ≡ aloneOf sign ⌝ }
+{
+    entries::sign::two_cells(DOTS_46, entries::sign::third_of(sign))
+}
+
+// Is it a small letter in a run that is supposed to be of capitals only? (The classes below CAPITAL are those of small letters.)
+fn is_small_among_capitals(state: usize, entry: u64) -> bool
+    ensures { λ r. ⌜ r ≡ smallAmongCapitals state entry ⌝ }
+{
+    state == CAPITALS && entries::class_in(entry) < CAPITAL
+}
+
 // The refusal of a deed that is a fault.
 fn fault_of(deed: usize, place: usize) -> Answer
     ensures { λ r. ⌜ r ≡ faultBy deed place ⌝ }
@@ -110,7 +126,7 @@ fn fault_of(deed: usize, place: usize) -> Answer
 // The signs from a place on, as long as nothing is asked: of code points that are written as usual, with their own cells alone, and of capitals in a run that has
 // a small letter, each with a 46 of its own. Neither is a pair mark. (Most of a text is such, so it has a loop of its own.)
 fn draw_usual(text: &[u32], signs: &mut [u32], from: usize, begun: usize, counted: usize) -> Reached
-    requires { ⌜ (length (now text) ≤ longestText) × (length (now text) ≤ length (now signs)) × (from ≤ length (now text)) × (counted ≤ 3 * from) ⌝ }
+    requires { ⌜ (length (now text) ≤ longestText) × (length (now text) ≤ length (now signs)) × (from ≤ length (now text)) × (counted ≤ 3 * from) × (begun < states) ⌝ }
     ensures { λ r. ⌜ Carried castilian (plainly (now (text .entry))) (now (signs .entry)) (now (signs .exit)) begun counted from r ⌝ }
 {
     let mut state: usize = begun;
@@ -146,7 +162,10 @@ fn draw_usual(text: &[u32], signs: &mut [u32], from: usize, begun: usize, counte
 }
 
 // The first pass: the sign of each code point, which is its cells with their count, and the count of them all; or the first refusal. What follows a place
-// is read only where the table has a question.
+// is read only where the table has a question. "If it has two letters or more and all are capitals, 46-46 stands once before it. Otherwise every capital in it has
+// 46 before it.": a run that begins with two capitals is supposed to be of capitals only, and drawn so. Where a small letter then stands in it, the sign of its first
+// capital is made anew, and the run is drawn again from behind that. (So a run of capitals only is read once: docs/DECISIONS.md, 31. The state is CAPITALS at the head
+// of the loop only where such a run has just begun, so that its first capital is at i - 1.)
 fn draw(text: &[u32], signs: &mut [u32]) -> Measured
     requires { ⌜ (length (now text) ≤ longestText) × (length (now text) ≤ length (now signs)) ⌝ }
     ensures { λ r. ⌜ (r ≡ measuredOf castilian (plainly (now (text .entry)))) × Drawn r castilian (plainly (now (text .entry))) (take (length (now (text .entry))) (now (signs .exit))) ⌝ }
@@ -157,31 +176,39 @@ fn draw(text: &[u32], signs: &mut [u32]) -> Measured
     let mut i: usize = 0;
     while i < text.len() {
         let reached = draw_usual(text, signs, i, state, n);
-        i = reached.place;
-        n = reached.cells;
-        state = reached.state;
-        if i < text.len() {
-            let mark = entries::mark_in(reached.entry);
-            if mark != 0 {
-                let Pairs::Stand(now_open) = pairs::pairs_after(opened, mark) else {
-                    return Measured::Refused(Answer::PairBroken(i));
-                };
-                opened = now_open;
-            }
-            let told = deeds::deed_of(state, entries::class_in(reached.entry));
-            let deed = if told < QUESTIONS {
-                told
+        if reached.place < text.len() {
+            if is_small_among_capitals(reached.state, reached.entry) {
+                signs[i - 1] = alone(signs[i - 1]);
+                n = n - 1;
+                state = MIXED;
             } else {
-                turns::settled(text, i + 1, told)
-            };
-            if QUESTIONS <= deed {
-                return Measured::Refused(fault_of(deed, i));
+                i = reached.place;
+                let mark = entries::mark_in(reached.entry);
+                if mark != 0 {
+                    let Pairs::Stand(now_open) = pairs::pairs_after(opened, mark) else {
+                        return Measured::Refused(Answer::PairBroken(i));
+                    };
+                    opened = now_open;
+                }
+                let told = deeds::deed_of(reached.state, entries::class_in(reached.entry));
+                let deed = if told < QUESTIONS {
+                    told
+                } else {
+                    turns::settled(text, i + 1, told)
+                };
+                if QUESTIONS <= deed {
+                    return Measured::Refused(fault_of(deed, i));
+                }
+                let sign = sign_of(deed % WAYS, reached.entry);
+                signs[i] = sign;
+                n = reached.cells + entries::sign::count_of(sign);
+                state = deed / WAYS;
+                i += 1;
             }
-            let sign = sign_of(deed % WAYS, reached.entry);
-            signs[i] = sign;
-            n = n + entries::sign::count_of(sign);
-            state = deed / WAYS;
-            i += 1;
+        } else {
+            i = reached.place;
+            n = reached.cells;
+            state = reached.state;
         }
     }
     if opened == 0 {

@@ -3,7 +3,7 @@
 -- For any table in which 0 has none. Last: in the Castilian one, reading ahead finds the same whether “ is taken for « or not (`future-plainly`).
 -- Assumes nothing.
 use mathlib.Core.Path.{_≡_, refl, sym, ap, _∙_}
-use mathlib.Core.Logic.{⊎-elim}
+use mathlib.Core.Logic.{inl, inr, ⊎-elim}
 use mathlib.Core.Bool.{Bool, true, false, _&&_, _||_, not, cond, Bool·beq, true≢false}
 use mathlib.Core.List.{List, [], _∷_}
 use Prim.Native.Nat.{ℕ, zero, suc, _+_, _≤_, _<_}
@@ -18,6 +18,9 @@ use Rattle.rules.proofs.States.{Future, rest}
 use Rattle.rules.proofs.Enumerations.{classes, futures}
 use Rattle.rules.proofs.Sides.{caps-next, mixed-next, form-next, digit-next, mark-next, look, future}
 use Rattle.rules.proofs.Plain.{oneFor, plainly, one-law, plainly-drop}
+use Rattle.deeds.specs.Acts as act
+use Rattle.deeds.specs.Stages.{Supposed}
+use Rattle.deeds.proofs.Machine.{settled-capitals}
 use Rattle.turns.specs.Ahead.{isSmall, isCapital, classAt, futureAt, endsForm}
 
 -- a fact of the future by what stands at the place and the future behind it
@@ -64,24 +67,40 @@ module _ (tb : Table) (none-at-zero : class (sortIn tb 0) ≡ unlisted) where
   unfolding look
   mark-at text i = ap mark-next (future-step text i) ∙ seen mark-next (λ c f. isOrdinal c) tt (classAt tb text i) (futureAt tb text (i + 1))
 
-  -- a run: a capital leaves open whether a small letter follows; anything else decides it
-  pub small-on : (text : List ℕ) (i : ℕ) → isCapital (classAt tb text i) ≡ true → mixed-next (futureAt tb text i) ≡ mixed-next (futureAt tb text (i + 1))
+  -- a run: a small letter is in it if one stands there, and none is if no letter does
+  pub small-here : (text : List ℕ) (i : ℕ) → isSmall (classAt tb text i) ≡ true → mixed-next (futureAt tb text i) ≡ true
   unfolding look
-  small-on text i e =
-      ap mixed-next (future-step text i)
-      ∙ seen-where isCapital mixed-next (λ c f. mixed-next f) tt (classAt tb text i) (futureAt tb text (i + 1)) e
+  small-here text i e = ap mixed-next (future-step text i) ∙ seen-where isSmall mixed-next (λ c f. true) tt (classAt tb text i) (futureAt tb text (i + 1)) e
 
-  pub small-at : (text : List ℕ) (i : ℕ) → isCapital (classAt tb text i) ≡ false → mixed-next (futureAt tb text i) ≡ isSmall (classAt tb text i)
+  pub no-letter-here : (text : List ℕ) (i : ℕ) → isCapital (classAt tb text i) ≡ false → isSmall (classAt tb text i) ≡ false
+      → mixed-next (futureAt tb text i) ≡ false
   unfolding look
-  small-at text i e =
+  no-letter-here text i e q =
       ap mixed-next (future-step text i)
-      ∙ seen-where (λ c. not (isCapital c)) mixed-next (λ c f. isSmall c) tt (classAt tb text i) (futureAt tb text (i + 1)) (ap not e)
+      ∙ seen-where (λ c. not (isCapital c || isSmall c)) mixed-next (λ c f. false) tt (classAt tb text i) (futureAt tb text (i + 1)) (rw (e, q))
 
-  pub capitals-at : (text : List ℕ) (i : ℕ) → caps-next (futureAt tb text i) ≡ isCapital (classAt tb text i) && not (mixed-next (futureAt tb text i))
+  pub end-here : (text : List ℕ) (i : ℕ) → length text ≤ i → mixed-next (futureAt tb text i) ≡ false
+  end-here text i l =
+      let e : classAt tb text i ≡ unlisted = ap (λ (c : ℕ). class (sortIn tb c)) (List·getD-eq-default text 0 l) ∙ none-at-zero in
+      no-letter-here text i (ap isCapital e) (ap isSmall e)
+
+  capitals-at : (text : List ℕ) (i : ℕ) → caps-next (futureAt tb text i) ≡ isCapital (classAt tb text i) && not (mixed-next (futureAt tb text i))
   unfolding look
   capitals-at text i =
       rw (future-step text i)
       (seen caps-next (λ c f. isCapital c && not (mixed-next (look c f))) tt (classAt tb text i) (futureAt tb text (i + 1)))
+
+  -- no run of capitals goes on without one
+  pub no-run : (text : List ℕ) (i : ℕ) → isCapital (classAt tb text i) ≡ false → caps-next (futureAt tb text i) ≡ false
+  no-run text i e = capitals-at text i ∙ rw e
+
+  -- where one stands, a run of capitals only goes on, or one with a small letter: that it is the former is supposed
+  pub supposed-run : (text : List ℕ) (i d : ℕ) → d ≡ act.beginsRun → isCapital (classAt tb text i) ≡ true → Supposed d (futureAt tb text i) act.firstOfCapitals
+  supposed-run text i d e q = go (mixed-next (futureAt tb text i)) refl
+    where
+      go : (b : Bool) → mixed-next (futureAt tb text i) ≡ b → Supposed d (futureAt tb text i) act.firstOfCapitals
+      go true m = inr (refl, e, m)
+      go false m = inl (settled-capitals d (futureAt tb text i) e (capitals-at text i ∙ rw (q, m)))
 
   -- a form: a digit leaves it open; anything else decides it, with what stands behind
   pub form-on : (text : List ℕ) (i : ℕ) → isDigit (classAt tb text i) ≡ true → form-next (futureAt tb text i) ≡ form-next (futureAt tb text (i + 1))

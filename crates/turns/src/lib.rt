@@ -1,7 +1,7 @@
 // What follows a place of a text, as far as a question of the table (crates/deeds) asks for it, and the deed once what follows has decided.
 // Read ahead is only where a run, a number or a denominator begins and after a point of a number; a state carries what was found.
 // A loop finds a place and no more, and what stands there is read anew: so the caller's loop keeps no counter for it (docs/DECISIONS.md, 30).
-// A new question is an arm of `settled`. A new letter is also an arm of `is_capital` and of `is_small`.
+// A new question is an arm of `settled`. A new capital is also an arm of `is_capital`.
 use deeds::BEGINS_NUMBER;
 use deeds::BEGINS_RUN;
 use deeds::CAPITAL_ALONE;
@@ -19,9 +19,9 @@ ghost use lib.ListN.{getD};
 ghost use Rattle.rules.specs.Castilian.{castilian};
 ghost use Rattle.rules.specs.Sorts.{class, isDigit, isOrdinal};
 ghost use Rattle.rules.specs.Rows.{sortIn};
-ghost use Rattle.rules.proofs.Sides.{caps-next, mixed-next, form-next, digit-next};
-ghost use Rattle.deeds.specs.Stages.{settledBy};
-ghost use Rattle.turns.specs.Ahead.{isSmall, isCapital, classAt, futureAt, endsForm};
+ghost use Rattle.rules.proofs.Sides.{form-next, digit-next};
+ghost use Rattle.deeds.specs.Stages.{Supposed};
+ghost use Rattle.turns.specs.Ahead.{isCapital, futureAt, endsForm};
 
 // The code points that reading ahead knows.
 const DIGIT_0: u32 = 0x30; // 0
@@ -39,10 +39,6 @@ const MASCULINE: u32 = 0xba; // º
 const CAPITAL_A: u32 = 0x41; // A
 
 const CAPITAL_Z: u32 = 0x5a; // Z
-
-const SMALL_A: u32 = 0x61; // a
-
-const SMALL_Z: u32 = 0x7a; // z
 
 fn is_digit(point: u32) -> bool
     ensures { λ r. ⌜ r ≡ isDigit (class (sortIn castilian point)) ⌝ }
@@ -82,22 +78,6 @@ fn is_capital(point: u32) -> bool
     }
 }
 
-fn is_small(point: u32) -> bool
-    ensures { λ r. ⌜ r ≡ isSmall (class (sortIn castilian point)) ⌝ }
-{
-    match point {
-        SMALL_A..=SMALL_Z => true,
-        0xe1 => true, // á
-        0xe9 => true, // é
-        0xed => true, // í
-        0xf1 => true, // ñ
-        0xf3 => true, // ó
-        0xfa => true, // ú
-        0xfc => true, // ü
-        _ => false,
-    }
-}
-
 // The code point at a place, and 0, which has no sign, past the end: no caller tests the length.
 fn point_at(text: &[u32], place: usize) -> u32
     ensures { λ r. ⌜ r ≡ getD (now (text .entry)) place 0 ⌝ }
@@ -110,35 +90,6 @@ fn digit_follows(text: &[u32], place: usize) -> bool
     ensures { λ r. ⌜ r ≡ digit-next (futureAt castilian (now (text .entry)) place) ⌝ }
 {
     is_digit(point_at(text, place))
-}
-
-// The place behind the capitals, if any, from this place on: if there is a small letter in their run, one stands there.
-fn behind_capitals(text: &[u32], from: usize) -> usize
-    ensures { λ r. ⌜ mixed-next (futureAt castilian (now (text .entry)) from) ≡ isSmall (classAt castilian (now (text .entry)) r) ⌝ }
-{
-    let mut place = from;
-    while is_capital(point_at(text, place)) {
-        place += 1;
-    }
-    place
-}
-
-// Is there a small letter in the run that goes on at this place?
-fn small_follows(text: &[u32], from: usize) -> bool
-    ensures { λ r. ⌜ r ≡ mixed-next (futureAt castilian (now (text .entry)) from) ⌝ }
-{
-    let end = behind_capitals(text, from);
-    is_small(point_at(text, end))
-}
-
-// Does a run of capitals only go on at this place?
-fn capitals_follow(text: &[u32], place: usize) -> bool
-    ensures { λ r. ⌜ r ≡ caps-next (futureAt castilian (now (text .entry)) place) ⌝ }
-{
-    if !is_capital(point_at(text, place)) {
-        return false;
-    }
-    !small_follows(text, place)
 }
 
 // Does a form go on at this place, behind its digits: with a full stop and º or ª, or with U+2044 and a digit?
@@ -171,13 +122,14 @@ fn form_follows(text: &[u32], from: usize) -> bool
     ends_form(text, end)
 }
 
-// The deed, once what follows has decided: `next` is the place after the one at hand.
+// The deed, once what follows has decided: `next` is the place after the one at hand. "If it has two letters or more and all are capitals, 46-46 stands once before
+// it": of a run that goes on with a capital that is supposed, and nothing more of it is read; `passes::draw` finds out.
 pub fn settled(text: &[u32], next: usize, deed: usize) -> usize
-    ensures { λ r. ⌜ r ≡ settledBy deed (futureAt castilian (now (text .entry)) next) ⌝ }
+    ensures { λ r. ⌜ Supposed deed (futureAt castilian (now (text .entry)) next) r ⌝ }
 {
     match deed {
         BEGINS_RUN => {
-            if capitals_follow(text, next) {
+            if is_capital(point_at(text, next)) {
                 FIRST_OF_CAPITALS
             } else {
                 CAPITAL_ALONE

@@ -71,20 +71,21 @@ usual-told : (u : U) → let l = at-u u in u .is-usual .result ≡ usualIn (entr
 usual-told u = u .is-usual .ensures ∙ ap (λ (w : ℕ). usualIn w (at-u u .loop .state)) (entry-is u)
 
 -- where it returns before the end
-left : (u : U) → let l = at-u u in let s = start l in
+left : (e : tie.Else1 Inv-loop μ-loop) → let l = at-u (e .before) in let s = start l in
     Carried castilian (text l) (s .args .signs .now) (l .loop .signs) (s .args .begun) (s .args .counted) (s .args .from)
-    (record { place = l .loop .i; entry = u .before .entry-of .result; state = l .loop .state; cells = l .loop .n })
-left u =
+    (record { place = l .loop .i; entry = e .before .before .entry-of .result; state = l .loop .state; cells = l .loop .n })
+left e =
+    let u = e .before in
     let l = at-u u in
     let s = start l in
     reached castilian held (text l) (s .args .signs .now) (s .args .begun) (s .args .counted) (s .args .from) (l .loop .signs) (l .loop .state) (l .loop .n) (l .loop .i) (l .loop .inv)
-    (u .before .entry-of .result) (λ k. entry-is u)
+    (u .before .entry-of .result) (λ k. entry-is u) (λ k. sym (usual-told u) ∙ e .if1 .left)
 
 loop-holds : tie.Need-loop-holds Inv-loop μ-loop
 loop-holds c =
     let s = c .before .before in
     under-start castilian held (plainly (s .args .text .now)) (s .args .signs .now) (s .args .begun) (s .args .counted) (s .args .from)
-    (subst (λ (n : ℕ). s .args .from ≤ n) (sym (plainly-length (s .args .text .now))) (s .pre .2)) (s .pre .3)
+    (subst (λ (n : ℕ). s .args .from ≤ n) (sym (plainly-length (s .args .text .now))) (s .pre .2)) (s .pre .3) (s .pre .4)
 
 mul-entry-of : tie.Need-mul-entry-of Inv-loop μ-loop
 mul-entry-of c = search needs
@@ -125,7 +126,7 @@ same-length : tie.Need-same-length Inv-loop μ-loop
 same-length c = search needs
 
 returns : tie.Need-returns Inv-loop μ-loop
-returns c = left (c .before .before)
+returns c = left (c .before)
 
 sign-of-requires : tie.Need-sign-of-requires Inv-loop μ-loop
 sign-of-requires c κs = search needs
@@ -170,7 +171,7 @@ returns-2 c =
     let l = c .before in
     let s = start l in
     reached castilian held (text l) (s .args .signs .now) (s .args .begun) (s .args .counted) (s .args .from) (l .loop .signs) (l .loop .state) (l .loop .n) (l .loop .i) (l .loop .inv)
-    0 (λ k. absurd (omega (arith, k, long l, c .loop-test .left)))
+    0 (λ k. absurd (omega (arith, k, long l, c .loop-test .left))) (λ k. absurd (omega (arith, k, long l, c .loop-test .left)))
 
 pub draw-usual-spec : {M : Type 1} → statement M
 draw-usual-spec =
