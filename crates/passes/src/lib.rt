@@ -105,7 +105,8 @@ fn alone(sign: u32) -> u32
     entries::sign::two_cells(DOTS_46, entries::sign::third_of(sign))
 }
 
-// Is it a small letter in a run that is supposed to be of capitals only? (The classes below CAPITAL are those of small letters.)
+// Is it a small letter in a run that is supposed to be of capitals only? (The classes below CAPITAL are those of small letters. It is asked of no place but the text's:
+// NO_ENTRY has such a class.)
 fn is_small_among_capitals(state: usize, entry: u64) -> bool
     ensures { λ r. ⌜ r ≡ smallAmongCapitals state entry ⌝ }
 {
