@@ -26,29 +26,22 @@ pub fn make_defined<T>(elements: &mut [T]) {
     request(MAKE_MEM_DEFINED, elements.as_ptr() as usize, size_of_val(elements));
 }
 
-/// A request with two words. Gives 0 where there is no valgrind.
-#[cfg(target_arch = "x86_64")]
+/// A request with two words. Gives 0 where there is no valgrind. The instructions differ from machine to machine, and the library is compiled
+/// for these two.
 fn request(number: usize, first: usize, second: usize) -> usize {
     let words = [number, first, second, 0, 0, 0];
     let mut answer = 0_usize;
     // SAFETY: rdi is rotated by 128 in all, and rbx exchanged with itself: no register and no memory changes. Valgrind knows the sequence,
     // reads the words and sets rdx.
+    #[cfg(target_arch = "x86_64")]
     unsafe {
         std::arch::asm!(
             "rol rdi, 3", "rol rdi, 13", "rol rdi, 61", "rol rdi, 51", "xchg rbx, rbx",
             in("rax") words.as_ptr(), inout("rdx") answer, options(nostack)
         );
     }
-    answer
-}
-
-/// The same on Arm.
-#[cfg(target_arch = "aarch64")]
-fn request(number: usize, first: usize, second: usize) -> usize {
-    let words = [number, first, second, 0, 0, 0];
-    let mut answer = 0_usize;
-    // SAFETY: x12 is rotated by 128 in all, and x10 becomes itself: no register and no memory changes. Valgrind knows the sequence, reads the
-    // words and sets x3.
+    // SAFETY: the same of x12, which is rotated, x10, which becomes itself, and x3, which valgrind sets.
+    #[cfg(target_arch = "aarch64")]
     unsafe {
         std::arch::asm!(
             "ror x12, x12, #3", "ror x12, x12, #13", "ror x12, x12, #51", "ror x12, x12, #61", "orr x10, x10, x10",
@@ -56,10 +49,4 @@ fn request(number: usize, first: usize, second: usize) -> usize {
         );
     }
     answer
-}
-
-/// The instructions differ from machine to machine, and the library is compiled for these two.
-#[cfg(not(any(target_arch = "x86_64", target_arch = "aarch64")))]
-fn request(_: usize, _: usize, _: usize) -> usize {
-    0
 }
