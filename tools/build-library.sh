@@ -54,7 +54,9 @@ struct sign desk_step(const __UINT8_TYPE__ *row, size row_length, size place) {
 TEXT
 
 {
-    module_here "$room/module.bc" | sed 's/@desk_step(/@desk_step_to(/' >"$room/module.ll" &&
+    module_here "$room/module.bc" >"$room/here.ll" &&
+        sed 's/@desk_step(/@desk_step_to(/' "$room/here.ll" >"$room/module.ll" &&
+        grep -q '^define .*ptr @desk_step_to(ptr ' "$room/module.ll" &&
         compile_here -x ir "$room/module.ll" -o "$room/module.o" &&
         compile_here "$room/front.c" -o "$room/front.o" &&
         "$kit/$toolchain/bin/llvm-ar" rcs "$archive" "$room/module.o" "$room/front.o"

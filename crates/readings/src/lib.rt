@@ -42,7 +42,7 @@ pub const FEM: usize = 7;
 pub const PERCENT: usize = 8;
 
 // The modes behind which signs may follow alike, from ALIKE on.
-pub const ALIKE: usize = 9;
+pub const ALIKE: usize = OWING;
 
 pub const OWING: usize = 9;
 
