@@ -78,7 +78,7 @@ unfoldable pub sound-word : Row → Bool
 sound-word [] = false
 sound-word (a ∷ w) = every low (a ∷ w)
 
-sound-low : (w : Row) → T (sound-word w) → T (every low w)
+pub sound-low : (w : Row) → T (sound-word w) → T (every low w)
 unfolding sound-word
 sound-low [] t = absurd t
 sound-low (a ∷ w) t = t

@@ -2,24 +2,30 @@
 -- one of those too. Each is computed once. Assumes nothing.
 use mathlib.Core.Bool.{Bool, true, false, _&&_, _||_, not}
 use mathlib.Core.List.{List, [], _∷_}
-use Prim.Native.Nat.{ℕ}
+use mathlib.Core.Option.{Option, none, some}
+use Prim.Native.Nat.{ℕ, _+_}
 use lib.Dec.{T, eqb, leb}
+use lib.ListN.{length}
 use Rattle.rules.specs.Cells.{dots}
 use Rattle.rules.specs.Sorts.{class, isDigitCell}
 use Rattle.rules.specs.Signs.{signCells, ownCells, lowerCells}
+use Rattle.rules.specs.Places.{classAt}
 use Rattle.rules.specs.Pairs.{markOf}
 use Rattle.rules.specs.Castilian.{castilian}
 use Rattle.rules.proofs.Finite.{every, below}
+use Rattle.rules.proofs.States.{Mode}
+use Rattle.rules.proofs.Enumerations.{modeNumber}
 use Rattle.rules.proofs.Machine.{step, at-rest, lead-of}
 use Rattle.rules.proofs.Pieces.{Piece, word}
 use Rattle.rules.proofs.Reader.{all-pieces, ways-of, begins-as, look-of}
 use Rattle.entries.proofs.Keys.{among, keysOf}
-use Rattle.readings.specs.Modes.{modeOf, modeCount}
+use Rattle.readings.specs.Modes.{modeOf, modeCount, spare}
 use Rattle.readings.specs.Acts as act
 use Rattle.readings.specs.Deeds.{deeds}
 use Rattle.readings.specs.Fields.{deedOf, classIn, usualIn, noCell}
 use Rattle.readings.specs.Words.{words, wordOf, twoCells}
 use Rattle.readings.specs.Readings.{onceList, readingOf, byWord, askedBy, capitalBy, numberBy, percentBy, longerBy, prefixBy, openerOf, closerOf}
+use Rattle.readings.specs.Print.{points}
 use Rattle.readings.proofs.Sight.{says}
 use Rattle.readings.proofs.Settling.{Cand, cands, bucket, sound-word, closes, settle}
 
@@ -66,3 +72,12 @@ all-right = tt
 pub all-sound : T (every (λ (s : Piece). sound-word (word s)) (all-pieces castilian))
 unfolding sound-word all-pieces castilian ways-of class isDigitCell dots signCells ownCells lowerCells
 all-sound = tt
+
+-- no piece has more code points than cells, but for the cell to spare before it; where one is to spare behind it, it has fewer
+abbrev pub thrifty : Piece → ℕ → Option Mode → Bool
+thrifty s m none = true
+thrifty s m (some n) = leb (length (points (lead-of (s .0)) (s .1 .0)) + spare (modeNumber n)) (length (word s) + spare m)
+
+pub all-thrifty : T (every (λ (s : Piece). below (λ m. thrifty s m (step (modeOf m) (s .0) (classAt (s .1)))) modeCount) (all-pieces castilian))
+unfolding all-pieces castilian ways-of class isDigitCell dots signCells ownCells lowerCells step lead-of
+all-thrifty = tt

@@ -4,29 +4,31 @@ use mathlib.Core.Path.{_≡_, refl, sym, _∙_, ap, subst}
 use mathlib.Core.Bool.{Bool, true, false, _&&_, _||_, not, cond, true≢false}
 use mathlib.Core.List.{List, [], _∷_, _++_, map}
 use mathlib.Core.Option.{Option, none, some}
-use Prim.Native.Nat.{ℕ, zero, suc, _+_, _≤_, _<_}
+use Prim.Native.Nat.{ℕ, zero, suc, _+_, _-_, _≤_, _<_}
 use native.Mathlib.Omega.{arith}
 use native.Mathlib.Nat.{not-suc-le-zero}
 use lib.Dec.{T, eqb, leb, ltb, ltb→lt}
 use borrow.Author.Tests.{leb-true, ltb-false, le-leb}
-use lib.ListN.{length, getD, drop, length-append, length-drop, drop-of-length-le}
+use lib.ListN.{length, getD, drop, length-append, length-drop, drop-of-length-le, List·getD-append}
 use lib.Seq.{getD-drop, drop-drop}
 use Rattle.rules.specs.Cells.{Row, Text, dots, lastCell}
 use Rattle.rules.specs.Castilian.{castilian}
 use Rattle.rules.specs.Sorts.{class, isDigitCell}
 use Rattle.rules.specs.Signs.{Sign}
+use Rattle.rules.specs.Places.{classAt}
 use Rattle.rules.specs.Pairs.{kinds, Opens, markOf, markFits, markTurns, fits, turn}
 use Rattle.rules.proofs.Finite.{every, below, at-below, false-of}
 use Rattle.rules.proofs.States.{Mode}
 use Rattle.rules.proofs.Enumerations.{modes, modeNumber, mode-back-number}
-use Rattle.rules.proofs.Machine.{at-rest, lead-of}
+use Rattle.rules.proofs.Machine.{at-rest, lead-of, step}
 use Rattle.rules.proofs.Pieces.{Piece, word, wait-text, sign-of}
+use Rattle.rules.proofs.Signs.{every-at}
 use Rattle.rules.proofs.Reader.{In, every-in, ways-of, look-of, match, match-split, goes, goes-some, find, find-some, pred-length, add, walk, all-pieces}
 use Rattle.entries.specs.Chosen.{choose}
 use Rattle.entries.proofs.Keys.{among, keysOf, chosen-key}
 use Rattle.pairs.specs.Opened.{openStates, opensOf}
 use Rattle.pairs.proofs.Pairing.{open-is, opening, closing, turned-few, closed-is}
-use Rattle.readings.specs.Modes.{modeOf, modeCount}
+use Rattle.readings.specs.Modes.{modeOf, modeCount, spare}
 use Rattle.readings.specs.Acts as act
 use Rattle.readings.specs.Fields.{deedOf, classIn, usualIn, noCell, cellFrom, cellOf}
 use Rattle.readings.specs.Words.{wordOf}
@@ -35,9 +37,9 @@ use Rattle.readings.specs.Left.{left, signsBy, addSign}
 use Rattle.readings.specs.Print.{points}
 use Rattle.readings.specs.declared.Step.{Step}
 use Rattle.readings.specs.declared.Step.the-variants as variant
-use Rattle.readings.proofs.Sight.{Agree}
-use Rattle.readings.proofs.Settling.{Cand, cands, pick, bucket, sound-word, openedBy, stepBy, find-picks, bucket-picks, cands-sound, bucket-sound, settle, settled, is-true}
-use Rattle.readings.proofs.Tested.{begun, asks, deeper, sights, right-two, right-one, right-at, all-right, all-sound}
+use Rattle.readings.proofs.Sight.{low, Agree}
+use Rattle.readings.proofs.Settling.{Cand, cands, pick, bucket, sound-word, sound-low, openedBy, stepBy, find-picks, bucket-picks, cands-sound, bucket-sound, settle, settled, is-true}
+use Rattle.readings.proofs.Tested.{begun, asks, deeper, sights, right-two, right-one, right-at, all-right, all-sound, thrifty, all-thrifty}
 
 -- THE CELLS IN VIEW
 one-cell : (r : Row) → Agree (cellOf r 0 ∷ []) r
@@ -180,6 +182,8 @@ pub record Turn (row : Row) (at m o l p k n u : ℕ) : Type 0 where
   pub next-is : k ≡ at + length (sign .taken)
   pub forward : at < k
   pub within : k ≤ length row
+  pub cells : (i : ℕ) → at ≤ i → i < k → getD row i 0 ≤ lastCell
+  pub thrift : length (points l p) + spare n + at ≤ k + spare m
   pub mode : n < modeCount
   pub opens : u < openStates
   pub signs-left : left m o (drop at row) ≡ addSign sign (left n u (drop k row))
@@ -269,10 +273,31 @@ module _ (row : Row) (at m o : ℕ) (inside : at < length row) (small : m < mode
     has-cell : 1 ≤ length (word s)
     has-cell = filled-word (word s) (every-in (λ (q : Piece). sound-word (word q)) tb all-sound s (it .0))
 
+    behind : (u : Row) × (drop at row ≡ word s ++ u)
+    behind = match-split (word s) (drop at row) (look-of N) (it .2)
+
     reaches : at + length (word s) ≤ length row
-    reaches =
-        let u : (u : Row) × (drop at row ≡ word s ++ u) = match-split (word s) (drop at row) (look-of N) (it .2) in
-        omega (arith, ap length (u .1), length-append (word s) (u .0), length-drop at row)
+    reaches = omega (arith, ap length (behind .1), length-append (word s) (behind .0), length-drop at row)
+
+    -- what it takes are cells
+    cells-there : (i : ℕ) → at ≤ i → i < at + length (word s) → getD row i 0 ≤ lastCell
+    cells-there i h l =
+        let j : i - at < length (word s) = omega (arith, h, l) in
+        let e : getD row i 0 ≡ getD (word s) (i - at) 0 =
+        ap (λ (n : ℕ). getD row n 0) (omega (arith, h)) ∙ sym (getD-drop at row (i - at) 0)
+        ∙ ap (λ (r : Row). getD r (i - at) 0) (behind .1) ∙ List·getD-append (word s) (behind .0) 0 (i - at) j in
+        let w : T (sound-word (word s)) = every-in (λ (q : Piece). sound-word (word q)) tb all-sound s (it .0) in
+        let t : T (low (getD (word s) (i - at) 0)) = every-at low (word s) (sound-low (word s) w) (i - at) j in
+        omega (arith, e, leb-true (getD (word s) (i - at) 0) lastCell (is-true (low (getD (word s) (i - at) 0)) t))
+
+    -- and it shows no more code points than cells, but for the cell to spare
+    spares : length (points (lead-of (s .0)) (s .1 .0)) + spare (modeNumber N) ≤ length (word s) + spare m
+    spares =
+        leb-true (length (points (lead-of (s .0)) (s .1 .0)) + spare (modeNumber N)) (length (word s) + spare m)
+        (is-true (leb (length (points (lead-of (s .0)) (s .1 .0)) + spare (modeNumber N)) (length (word s) + spare m))
+        (subst (λ (x : Option Mode). T (thrifty s m x)) (goes-some (modeOf m) (opensOf o) s (it .1) .1)
+        (at-below (λ n. thrifty s n (step (modeOf n) (s .0) (classAt (s .1)))) modeCount
+        (every-in (λ (q : Piece). below (λ n. thrifty q n (step (modeOf n) (q .0) (classAt (q .1)))) modeCount) tb all-thrifty s (it .0)) m small)))
 
     leaves : (turn (s .1 .1) (opensOf o) ≡ opensOf (openedBy o (markOf (s .1 .1)))) × (openedBy o (markOf (s .1 .1)) < openStates)
     unfolding turn fits
@@ -298,6 +323,8 @@ module _ (row : Row) (at m o : ℕ) (inside : at < length row) (small : m < mode
           next-is = sym ek;
           forward = omega (arith, ek, has-cell);
           within = omega (arith, ek, reaches);
+          cells = λ i h j. cells-there i h (omega (arith, j, ek));
+          thrift = omega (arith, ek, en, spares, ap length (ap (λ (x : ℕ). points x (s .1 .0)) el), ap length (ap (points l) ep), ap spare en);
           mode = omega (arith, en, mode-small N);
           opens = omega (arith, eu, leaves .1);
           signs-left =

@@ -1,6 +1,8 @@
 -- Where a reader stands between two signs, as a number: the number of a mode of the rules' machine (crates/rules/proofs/States.antt). The code's constants are
--- these (src/lib.rt). Assumes nothing.
+-- these (src/lib.rt). In order: the modes; in which of them a cell is to spare. Assumes nothing.
+use mathlib.Core.Bool.{cond}
 use Prim.Native.Nat.{ℕ}
+use lib.Dec.{eqb}
 use lib.ListN.{getD}
 use Rattle.rules.proofs.States.{Mode, Free}
 use Rattle.rules.proofs.Enumerations.{mode-list}
@@ -59,3 +61,7 @@ under = 14
 
 abbrev pub mid : ℕ
 mid = 15
+
+-- A CELL TO SPARE: behind 3456 and lower digits one cell more was read than code points. What ends them has two code points and one cell.
+abbrev pub spare : ℕ → ℕ
+spare m = cond (eqb m low) 1 0
