@@ -26,7 +26,7 @@ use Rattle.readings.specs.Fields.{deedOf, classIn, pointIn, capitalIn, figureIn
 use Rattle.readings.specs.Words.{words, wordOf, twoOf}
 use Rattle.readings.specs.Readings.{noPoint, Reading, reads, aMark, one, usualBy, onceList, digitCell, capitalModes, capitalLetter, capitalBy, numberBy, percentBy, innerQuotes, longerBy, prefixBy, askList, askedBy, readingOf, byWord, openerOf, closerOf, markStep, stepOf, stepAt}
 use Rattle.readings.specs.Readings as reading
-use Rattle.signs.specs.Among.{digitCells, lowerCells, cellAmong, lowerCell}
+use Rattle.signs.specs.Among.{digitCells, lowerCells, letterCells, signCells, cellAmong, lowerCell, aloneCell}
 use Rattle.signs.specs.Runs.{noRun, runOf, homeOf, Quick, InRun}
 use Rattle.readings.specs.declared.Step.{Step}
 use Rattle.readings.specs.declared.Step.the-variants as variant
@@ -350,6 +350,69 @@ module _ (w at o : ℕ) where
 
   pub usual-sign : (p t : ℕ) → p ≡ pointIn w → t ≡ thenIn w → (p ≡ noPoint → ⊥) → variant.Sign noPoint p (at + 1) t o ≡ stepOf at o (usualBy w)
   usual-sign p t e f n = rw (ne-eqb (pointIn w) noPoint (λ q. n (e ∙ q)), e, f)
+
+-- A CELL THAT IS ALONE: its bit tells that it is, and that of a letter the mode behind it
+abbrev pub bit-of : ℕ → ℕ → ℕ
+bit-of these c = these / 2 ^ (c % 64) % 2
+
+abbrev alone-test : ℕ → Bool
+alone-test c = Bool·beq (eqb (bit-of (letterCells + signCells) c) 1) (aloneCell c)
+
+alone-right : T (below alone-test noCell)
+unfolding words
+alone-right = tt
+
+abbrev behind-test : ℕ → Bool
+behind-test c = not (aloneCell c) || eqb (thenIn (wordOf c)) (cond (eqb (bit-of letterCells c) 1) mode.mixed mode.free)
+
+behind-right : T (below behind-test noCell)
+unfolding words
+behind-right = tt
+
+module _ (c : ℕ) (low : c ≤ lastCell) where
+  pub alone-told : eqb (bit-of (letterCells + signCells) c) 1 ≡ aloneCell c
+  alone-told = beq-same (eqb (bit-of (letterCells + signCells) c) 1) (aloneCell c) (at-below alone-test noCell alone-right c (omega (arith, low)))
+
+  module _ (alone : aloneCell c ≡ true) where
+    behind : thenIn (wordOf c) ≡ cond (eqb (bit-of letterCells c) 1) mode.mixed mode.free
+    behind =
+        eqb→eq (thenIn (wordOf c)) (cond (eqb (bit-of letterCells c) 1) mode.mixed mode.free)
+        (implies (aloneCell c) (eqb (thenIn (wordOf c)) (cond (eqb (bit-of letterCells c) 1) mode.mixed mode.free)) (subst T (sym alone) tt)
+        (at-below behind-test noCell behind-right c (omega (arith, low))))
+
+    pub behind-letter : bit-of letterCells c ≡ 1 → mode.mixed ≡ thenIn (wordOf c)
+    behind-letter e = sym (behind ∙ ap (λ (b : Bool). cond b mode.mixed mode.free) (eq-eqb (bit-of letterCells c) 1 e))
+
+    pub behind-sign : (bit-of letterCells c ≡ 1 → ⊥) → mode.free ≡ thenIn (wordOf c)
+    behind-sign n = sym (behind ∙ ap (λ (b : Bool). cond b mode.mixed mode.free) (ne-eqb (bit-of letterCells c) 1 n))
+
+    pub alone-modes : (thenIn (wordOf c) ≡ mode.free) ⊎ (thenIn (wordOf c) ≡ mode.mixed)
+    alone-modes = go (eqb (bit-of letterCells c) 1) behind
+      where
+        go : (b : Bool) → thenIn (wordOf c) ≡ cond b mode.mixed mode.free → (thenIn (wordOf c) ≡ mode.free) ⊎ (thenIn (wordOf c) ≡ mode.mixed)
+        go true e = inr e
+        go false e = inl e
+
+-- what a test of three parts says of each
+three : (a b d : Bool) → (a && (b && d)) ≡ true → (a ≡ true) × (b ≡ true) × (d ≡ true)
+three true true true e = (refl, refl, refl)
+three true true false e = absurd (true≢false (sym e))
+three true false d e = absurd (true≢false (sym e))
+three false b d e = absurd (true≢false (sym e))
+
+-- such a cell is its code point, where nothing is begun and in a run with a small letter
+pub alone-step : (row : Row) (at m o : ℕ) → at < length row → getD row at 0 ≤ lastCell → aloneCell (getD row at 0) ≡ true → (m ≡ mode.free) ⊎ (m ≡ mode.mixed)
+    → stepAt row at m o ≡ variant.Sign noPoint (pointIn (wordOf (getD row at 0))) (at + 1) (thenIn (wordOf (getD row at 0))) o
+alone-step row at m o inside low alone here =
+    sym
+    (usual-sign w at o (pointIn w) (thenIn w) refl refl (has-some (pointIn w) (parts .2))
+    ∙ as-usual row at m o w (word-there row at inside) (⊎-elim (λ e. ap (usualIn w) e ∙ parts .0) (λ e. ap (usualIn w) e ∙ parts .1) here))
+  where
+    w : ℕ
+    w = wordOf (getD row at 0)
+
+    parts : (usualIn (wordOf (getD row at 0)) mode.free ≡ true) × (usualIn (wordOf (getD row at 0)) mode.mixed ≡ true) × (not (eqb (pointIn (wordOf (getD row at 0))) noPoint) ≡ true)
+    parts = three (usualIn w mode.free) (usualIn w mode.mixed) (not (eqb (pointIn w) noPoint)) alone
 
 -- where a cell that has no code point of its own is read as usual, it is a mark of a kind that is counted
 marks-right : T (below (λ x. below (λ m. not (usualIn (wordOf x) m && eqb (pointIn (wordOf x)) noPoint) || ltb (kindIn (wordOf x)) kinds) modeCount) sights)
