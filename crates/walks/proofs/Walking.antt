@@ -1,34 +1,39 @@
--- Signs one after another (`Leads`). In order: signs joined; a turn more; a walk in the middle of a part (`Mid`), and its ends; a quick reading; the sign at a
--- place of signs joined. Assumes nothing.
+-- Signs one after another (`Leads`). In order: signs joined; a turn more; a walk in the middle of a part (`Mid`), and its ends; a quick reading; cells that are
+-- only counted; the sign at a place of signs joined. Assumes nothing.
 use mathlib.Core.Path.{_≡_, refl, sym, ap, _∙_, subst}
 use mathlib.Core.Bool.{Bool, true, false}
 use mathlib.Core.List.{List, [], _∷_, _++_, append-assoc, append-nil}
-use mathlib.Core.Logic.{inl, inr, ⊎-elim}
+use mathlib.Core.Logic.{_⊎_, inl, inr, ⊎-elim}
 use mathlib.Core.Option.{Option, none, some}
-use Prim.Native.Nat.{ℕ, _+_, _-_, _*_, _≤_, _<_}
+use Prim.Native.Nat.{ℕ, zero, suc, _+_, _-_, _*_, _≤_, _<_}
 use native.Mathlib.Omega.{arith}
 use native.Mathlib.Nat.{add-zero}
 use lib.Dec.{eqb, leb}
-use lib.ListN.{length, drop, length-append}
+use lib.ListN.{length, drop, getD, length-append}
 use borrow.Author.Tests.{eq-eqb, ne-eqb, le-leb, lt-leb}
-use Rattle.rules.specs.Cells.{Row}
+use Rattle.rules.specs.Cells.{Row, lastCell}
 use Rattle.rules.specs.Signs.{Sign, printOf, cellsOf}
 use Rattle.rules.specs.Screen.{signAt}
 use Rattle.rules.specs.Refusals.{longestRow}
 use Rattle.rules.proofs.Finite.{le-or-lt}
 use Rattle.pairs.specs.Opened.{openStates}
-use Rattle.readings.specs.Modes.{modeCount}
+use Rattle.readings.specs.Modes.{modeCount, free, mixed, spare}
+use Rattle.readings.specs.Fields.{pointIn, thenIn}
+use Rattle.readings.specs.Words.{wordOf}
+use Rattle.readings.specs.Readings.{noPoint}
 use Rattle.readings.specs.Left.{left, addSign}
 use Rattle.readings.specs.Print.{points}
+use Rattle.signs.specs.Among.{aloneCell}
 use Rattle.signs.specs.Runs.{runOf, Quick, InRun}
+use Rattle.signs.proofs.Cases.{alone-modes, alone-step}
 use Rattle.readings.specs.declared.Step.{Step}
 use Rattle.readings.specs.declared.Step.the-variants as step
 use Rattle.readings.proofs.Turning.{Turn, turn-of}
-use Rattle.walks.specs.Walks.{Wrote, mostPoints, addSigns, Starts, Leads, Runs, runs-on, Goes, goes-on, goes-nowhere}
+use Rattle.walks.specs.Walks.{Wrote, mostPoints, addSigns, Starts, CellsFrom, Leads, Runs, runs-on, Goes, goes-on, goes-nowhere, AllCells, Alone, Tallied}
 use Rattle.walks.specs.declared.Walked.{Walked}
 use Rattle.walks.specs.declared.Walked.the-variants.{On, Nowhere}
 use Rattle.readings.proofs.Print.{points-width}
-use Rattle.walks.proofs.Writing.{wrote-none, wrote-on}
+use Rattle.walks.proofs.Writing.{wrote-none, wrote-on, wrote-full}
 
 -- SIGNS JOINED
 pub print-join : (ss xs : List Sign) → printOf (ss ++ xs) ≡ printOf ss ++ printOf xs
@@ -53,6 +58,10 @@ starts-join stop at (s ∷ ss) xs h k = (
       (subst (λ (n : ℕ). Starts stop n xs) (omega (arith, length-append (s .taken) (cellsOf ss))) k),
 )
 
+starts-wider : (stop stop' at : ℕ) (ss : List Sign) → stop ≤ stop' → Starts stop at ss → Starts stop' at ss
+starts-wider stop stop' at [] h k = tt
+starts-wider stop stop' at (s ∷ ss) h k = (omega (arith, h, k .0), k .1, k .2, starts-wider stop stop' (at + length (s .taken)) ss h (k .3))
+
 -- at most two code points a sign, and a cell or more
 pub two-each : (stop at : ℕ) (ss : List Sign) → Starts stop at ss → length (printOf ss) ≤ 2 * length (cellsOf ss)
 two-each stop at [] h = omega arith
@@ -67,7 +76,16 @@ adds-none (s ∷ ss) = ap (addSign s) (adds-none ss)
 -- A TURN MORE, and as many as another list has
 pub leads-none : (row : Row) (stop at m o : ℕ) → at ≤ length row → m < modeCount → o < openStates → Leads row stop at m o at m o []
 leads-none row stop at m o h f g =
-    record { left-is = refl; next-is = sym (add-zero at); starts = tt; within = h; mode = f; opens = g }
+    record {
+      left-is = refl;
+      next-is = sym (add-zero at);
+      starts = tt;
+      within = h;
+      cells = λ i j k. absurd (omega (arith, j, k));
+      thrift = omega arith;
+      mode = f;
+      opens = g;
+    }
 
 leads-one : {row : Row} {stop at m o l p k n u : ℕ} → at < stop → (turn : Turn row at m o l p k n u) → Leads row stop at m o k n u (turn .sign ∷ [])
 leads-one {l = l} {p = p} h turn =
@@ -76,6 +94,8 @@ leads-one {l = l} {p = p} h turn =
       next-is = turn .next-is ∙ ap (λ (c : Row). _ + length c) (sym (append-nil (turn .sign .taken)));
       starts = (h, omega (arith, turn .next-is, turn .forward), (l, p, turn .shows), tt);
       within = turn .within;
+      cells = turn .cells;
+      thrift = omega (arith, turn .thrift, ap length (append-nil (turn .sign .shown)), ap length (turn .shows));
       mode = turn .mode;
       opens = turn .opens;
     }
@@ -84,6 +104,9 @@ module _ {row : Row} {stop from m₀ o₀ at m o : ℕ} {ss : List Sign} (leads 
   pub leads-few : length (printOf ss) + 2 * from ≤ 2 * at
   leads-few = omega (arith, two-each stop from ss (leads .starts), leads .next-is)
 
+  cells-join-on : {k : ℕ} → CellsFrom row at k → CellsFrom row from k
+  cells-join-on more i h l = ⊎-elim (λ j. more i j l) (λ j. leads .cells i h j) (le-or-lt at i)
+
   pub leads-join : {k n u : ℕ} {xs : List Sign} → Leads row stop at m o k n u xs → Leads row stop from m₀ o₀ k n u (ss ++ xs)
   leads-join {k} {n} {u} {xs} more =
       record {
@@ -91,8 +114,23 @@ module _ {row : Row} {stop from m₀ o₀ at m o : ℕ} {ss : List Sign} (leads 
         next-is = omega (arith, leads .next-is, more .next-is, cells-join ss xs);
         starts = starts-join stop from ss xs (leads .starts) (subst (λ (i : ℕ). Starts stop i xs) (leads .next-is) (more .starts));
         within = more .within;
+        cells = cells-join-on (more .cells);
+        thrift = omega (arith, leads .thrift, more .thrift, ap length (print-join ss xs), length-append (printOf ss) (printOf xs));
         mode = more .mode;
         opens = more .opens;
+      }
+
+  pub leads-wider : {stop' : ℕ} → stop ≤ stop' → Leads row stop' from m₀ o₀ at m o ss
+  leads-wider {stop'} h =
+      record {
+        left-is = leads .left-is;
+        next-is = leads .next-is;
+        starts = starts-wider stop stop' from ss h (leads .starts);
+        within = leads .within;
+        cells = leads .cells;
+        thrift = leads .thrift;
+        mode = leads .mode;
+        opens = leads .opens;
       }
 
   pub leads-nowhere : left m o (drop at row) ≡ none → left m₀ o₀ (drop from row) ≡ none
@@ -113,8 +151,12 @@ module _ {row : Row} {stop from m₀ o₀ n₀ m o n at : ℕ} {t₀ t : List �
   pub mid-few : n₀ ≤ 2 * from → n ≤ 2 * at
   mid-few h = omega (arith, mid .count, leads-few (mid .leads), h)
 
-  pub mid-most : length row ≤ longestRow → n₀ ≤ 2 * from → n ≤ mostPoints
+  mid-most : length row ≤ longestRow → n₀ ≤ 2 * from → n ≤ mostPoints
   mid-most h k = omega (arith, mid-few k, mid .leads .within)
+
+  -- what `put` asks for
+  pub mid-put : length row ≤ longestRow → n₀ ≤ 2 * from → 1 ≤ length t₀ → (n ≤ mostPoints) × (1 ≤ length t)
+  mid-put h k l = (mid-most h k, omega (arith, mid .wrote .0, l))
 
   -- more signs, and one
   pub mid-join : {k n' u c : ℕ} {t' : List ℕ} → Runs row stop at m o n t t' (On k n' u c) → Mid row stop from m₀ o₀ n₀ t₀ t' n' u c k
@@ -140,18 +182,30 @@ module _ {row : Row} {stop from m₀ o₀ n₀ m o n at : ℕ} {t₀ t : List �
   pub mid-runs : Runs row stop from m₀ o₀ n₀ t₀ t (On at m o n)
   mid-runs = runs-on (mid .signs) at m o n (mid .leads) (mid .count) (mid .wrote)
 
-module _ {row : Row} {stop from m₀ o₀ m o n at : ℕ} {t₀ t : List ℕ} (mid : Mid row stop from m₀ o₀ 0 t₀ t m o n at) where
-  pub mid-nowhere : left m o (drop at row) ≡ none → Goes row stop from m₀ o₀ t₀ t Nowhere
-  mid-nowhere e = goes-nowhere (leads-nowhere (mid .leads) e) (mid .wrote .0)
+  -- a walk over a part that lies within
+  pub mid-part : {stop' : ℕ} {t' : List ℕ} (w : Walked) → stop' ≤ stop → Goes row stop' at m o n t t' w → {k n' u c : ℕ} → w ≡ On k n' u c
+      → Mid row stop from m₀ o₀ n₀ t₀ t' n' u c k × (stop' ≤ k)
+  mid-part {t' = t'} w h (goes-on ss j m' v d leads reached count wrote) {k} e =
+      let f : j ≡ k = cc in
+      (mid-more w (subst (Runs row stop at m o n t t') refl (runs-on ss j m' v d (leads-wider leads h) count wrote)) e, omega (arith, reached, f))
+  mid-part w h (goes-nowhere j within cells none-left same) e = let z : _≡_ {A = ℕ} 0 1 = cc in absurd (omega arith)
 
-  pub mid-end : stop ≤ at → Goes row stop from m₀ o₀ t₀ t (On at m o n)
-  mid-end h = goes-on (mid .signs) at m o n (mid .leads) h (omega (arith, mid .count)) (mid .wrote)
+  pub mid-lost : {stop' : ℕ} {t' : List ℕ} (w : Walked) → Goes row stop' at m o n t t' w → {k : ℕ} → w ≡ Nowhere k
+      → (left m o (drop at row) ≡ none) × (length t' ≡ length t)
+  mid-lost w (goes-on ss j m' v d leads reached count wrote) e = let z : _≡_ {A = ℕ} 0 1 = cc in absurd (omega arith)
+  mid-lost w (goes-nowhere j within cells none-left same) e = (none-left, same)
+
+  pub mid-nowhere : left m o (drop at row) ≡ none → Goes row stop from m₀ o₀ n₀ t₀ t (Nowhere at)
+  mid-nowhere e = goes-nowhere at (mid .leads .within) (mid .leads .cells) (leads-nowhere (mid .leads) e) (mid .wrote .0)
+
+  pub mid-end : stop ≤ at → Goes row stop from m₀ o₀ n₀ t₀ t (On at m o n)
+  mid-end h = goes-on (mid .signs) at m o n (mid .leads) h (mid .count) (mid .wrote)
 
 -- of loops over signs that are alike: from the same mode, always to a place, and forward
 pub runs-from : (row : Row) (stop at o n : ℕ) {m m' : ℕ} {t t' : List ℕ} (w : Walked) → m ≡ m' → Runs row stop at m' o n t t' w → Runs row stop at m o n t t' w
 runs-from row stop at o n {t = t} {t' = t'} w e h = subst (λ (i : ℕ). Runs row stop at i o n t t' w) (sym e) h
 
-pub runs-somewhere : (row : Row) (stop at m o n : ℕ) {t t' : List ℕ} (w : Walked) → Runs row stop at m o n t t' w → w ≡ Nowhere → ⊥
+pub runs-somewhere : (row : Row) (stop at m o n : ℕ) {t t' : List ℕ} (w : Walked) → Runs row stop at m o n t t' w → {j : ℕ} → w ≡ Nowhere j → ⊥
 runs-somewhere row stop at m o n w (runs-on ss k m' u c leads count wrote) e = let z : _≡_ {A = ℕ} 0 1 = cc in omega arith
 
 pub runs-forward : (row : Row) (stop at m o n : ℕ) {t t' : List ℕ} (w : Walked) → Runs row stop at m o n t t' w → {k n' u c : ℕ} → w ≡ On k n' u c → at ≤ k
@@ -171,6 +225,54 @@ pub run-turn : (row : Row) (at m o : ℕ) → at < length row → m < modeCount 
 run-turn row at m o inside small few s (m', e, h) l p k n u q =
     let t = quick-turn row at m m' o inside small few s h l p k n u q in
     subst (λ (i : ℕ). (runOf i ≡ runOf m) × Turn row at m o l p k i o) (sym (t .0)) (e, t .1)
+
+pub alone-more : {row : Row} {at k : ℕ} → Alone row at k → k < length row → aloneCell (getD row k 0) ≡ true → Alone row at (k + 1)
+alone-more {row} {at} {k} are inside is =
+    record {
+      forward = omega (arith, are .forward);
+      within = omega (arith, inside);
+      alone = λ i h l. ⊎-elim (λ j. subst (λ (x : ℕ). aloneCell (getD row x 0) ≡ true) (omega (arith, j, l)) is) (λ j. are .alone i h j) (le-or-lt k i);
+    }
+
+-- CELLS THAT ARE ONLY COUNTED: each is a turn, whether nothing is begun or a run with a small letter is
+module _ (row : Row) (all : AllCells row) (at o : ℕ) (few : o < openStates) where
+  -- the mode behind j of them
+  abbrev mode-on : ℕ → ℕ → ℕ
+  mode-on m zero = m
+  mode-on m (suc j) = thenIn (wordOf (getD row (at + j) 0))
+
+  pub counted : (m j : ℕ) → (m ≡ free) ⊎ (m ≡ mixed) → Alone row at (at + j)
+      → (ss : List Sign) × Leads row (length row) at m o (at + j) (mode-on m j) o ss × (length (printOf ss) ≡ j) × ((mode-on m j ≡ free) ⊎ (mode-on m j ≡ mixed))
+  counted m zero e are =
+      ([], subst (λ (k : ℕ). Leads row (length row) at m o k m o []) (sym (add-zero at)) (leads-none row (length row) at m o (omega (arith, are .within)) (⊎-elim (λ h. omega (arith, h)) (λ h. omega (arith, h)) e) few), refl, e)
+  counted m (suc j) e are =
+      let before = counted m j e (record { forward = omega arith; within = omega (arith, are .within); alone = λ i h l. are .alone i h (omega (arith, l)) }) in
+      let inside : at + j < length row = omega (arith, are .within) in
+      let is = are .alone (at + j) (omega arith) (omega arith) in
+      let cell = all (at + j) inside in
+      let step = alone-step row (at + j) (mode-on m j) o inside cell is (before .3) in
+      let turn = turn-of row (at + j) (mode-on m j) o inside (before .1 .mode) few noPoint (pointIn (wordOf (getD row (at + j) 0))) (at + j + 1) (thenIn (wordOf (getD row (at + j) 0))) o step in
+      let on = leads-join (before .1) (leads-one inside turn) in
+      let p : length (printOf (before .0 ++ turn .sign ∷ [])) ≡ suc j =
+      omega (arith, ap length (print-join (before .0) (turn .sign ∷ [])), length-append (printOf (before .0)) (printOf (turn .sign ∷ [])), before .2, ap length (append-nil (turn .sign .shown)), ap length (turn .shows)) in (
+        before .0 ++ turn .sign ∷ [],
+        subst (λ (k : ℕ). Leads row (length row) at m o k (thenIn (wordOf (getD row (at + j) 0))) o (before .0 ++ turn .sign ∷ [])) (omega arith) on,
+        p,
+        alone-modes (getD row (at + j) 0) cell is,
+      )
+
+  pub tallied-runs : (m n k md room : ℕ) → Tallied row at m room n k → (k ≡ at → ⊥) → md ≡ thenIn (wordOf (getD row (k - 1) 0))
+      → (t : List ℕ) → length t ≡ room → Runs row (length row) at m o n t t (On k md o (n + (k - at)))
+  tallied-runs m n k md room tallied other is t long =
+      let j : ℕ = k - at - 1 in
+      let e : at + suc j ≡ k = omega (arith, other, tallied .are .forward) in
+      let f : at + j ≡ k - 1 = omega (arith, other, tallied .are .forward) in
+      let only = tallied .only (omega (arith, other, tallied .are .forward)) in
+      let c = counted m (suc j) (only .1) (subst (Alone row at) (sym e) (tallied .are)) in
+      runs-on (c .0) k md o (n + (k - at))
+      (subst (λ (i : ℕ). Leads row (length row) at m o i md o (c .0)) e
+      (subst (λ (i : ℕ). Leads row (length row) at m o (at + suc j) i o (c .0)) (ap (λ (i : ℕ). thenIn (wordOf (getD row i 0))) f ∙ sym is) (c .1)))
+      (omega (arith, c .2, e)) (wrote-full t n (printOf (c .0)) (omega (arith, long, only .0)))
 
 pub adds-some : (ss xs : List Sign) → addSigns ss (some xs) ≡ some (ss ++ xs)
 adds-some [] xs = refl

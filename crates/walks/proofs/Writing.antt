@@ -4,7 +4,7 @@ use mathlib.Core.List.{List, [], _∷_, _++_, append-assoc}
 use mathlib.Core.Logic.{_⊎_, ⊎-elim}
 use Prim.Native.Nat.{ℕ, suc, _+_, _≤_, _<_}
 use native.Mathlib.Omega.{arith}
-use lib.ListN.{length, set, take, drop, length-append}
+use lib.ListN.{length, set, take, drop, length-append, length-set}
 use lib.Seq.{sets, length-sets, sets-eq, drop-drop}
 use Rattle.rules.specs.Cells.{Text}
 use Rattle.rows.specs.Laid.{laid}
@@ -15,6 +15,11 @@ use Rattle.readings.proofs.Print.{points-one, points-two}
 
 pub wrote-none : (t : List ℕ) (n : ℕ) → Wrote t t n []
 wrote-none t n = (refl, λ h. sym (laid-none t n))
+
+-- where all is full already, whatever
+pub wrote-full : (t : List ℕ) (n : ℕ) (p : Text) → length t ≤ n → Wrote t t n p
+wrote-full t n [] h = wrote-none t n
+wrote-full t n (x ∷ p) h = (refl, λ k. absurd (omega (arith, h, k)))
 
 pub wrote-on : (t u v : List ℕ) (n m : ℕ) (p q : Text) → Wrote t u n p → m ≡ n + length p → Wrote u v m q → Wrote t v n (p ++ q)
 wrote-on t u v n m p q a e b = (
@@ -40,8 +45,11 @@ wrote-nowhere t new n p h e = (ap length e, λ k. absurd (omega (arith, h, k)))
 
 -- THE ENDS OF `put`: a sign without a lead, or with one, behind n elements
 module _ (t new : List ℕ) (n l p : ℕ) where
-  pub put-one : l ≡ 0 → (new ≡ set t n p) ⊎ ((length t ≤ n) × (new ≡ t)) → (n + 1 ≡ n + length (points l p)) × Wrote t new n (points l p)
-  put-one e came = rw (points-one l p e) (refl, ⊎-elim (wrote-stores t new n (p ∷ [])) (λ h. wrote-nowhere t new n (p ∷ []) (omega (arith, h .0)) (h .1)) came)
+  pub put-one : l ≡ 0 → (k : ℕ) → (n < length t → k ≡ n) → new ≡ set t k p → (n + 1 ≡ n + length (points l p)) × Wrote t new n (points l p)
+  put-one e k there stored = rw (points-one l p e) (
+    refl,
+    (ap length stored ∙ length-set t k p, λ h. stored ∙ ap (λ (i : ℕ). set t i p) (there (omega (arith, h))) ∙ stores t n (p ∷ []) h),
+  )
 
   pub put-two : (l ≡ 0 → ⊥) → (new ≡ set (set t n l) (n + 1) p) ⊎ ((length t < n + 2) × (new ≡ t))
       → (n + 2 ≡ n + length (points l p)) × Wrote t new n (points l p)

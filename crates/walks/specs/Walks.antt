@@ -1,18 +1,22 @@
 -- What a walk over a part of a row finds. In order: what is written to a lent text; the signs of a part; what is read where signs follow one another alike; what
--- a walk finds. It is told by the signs that the rules' own reader finds (`left` of the crate `readings`); only inner promises name these. Assumes nothing.
+-- a walk finds; cells that are only counted. It is told by the signs that the rules' own reader finds (`left` of the crate `readings`); only inner promises name
+-- these. Assumes nothing.
 use mathlib.Core.List.{List, [], _∷_, _++_}
 use mathlib.Core.Option.{Option, none}
+use mathlib.Core.Bool.{true}
+use mathlib.Core.Logic.{_⊎_}
 use mathlib.Core.Path.{_≡_}
 use Prim.Native.Nat.{ℕ, _+_, _*_, _≤_, _<_}
-use lib.ListN.{length, take, drop}
-use Rattle.rules.specs.Cells.{Text, Row}
+use lib.ListN.{length, take, drop, getD}
+use Rattle.rules.specs.Cells.{Text, Row, lastCell}
 use Rattle.rules.specs.Signs.{Sign, printOf, cellsOf}
 use Rattle.rules.specs.Refusals.{longestRow}
 use Rattle.pairs.specs.Opened.{openStates}
 use Rattle.rows.specs.Laid.{laid}
-use Rattle.readings.specs.Modes.{modeCount}
+use Rattle.readings.specs.Modes.{modeCount, free, mixed, spare}
 use Rattle.readings.specs.Left.{left, addSign}
 use Rattle.readings.specs.Print.{points}
+use Rattle.signs.specs.Among.{aloneCell}
 use Rattle.walks.specs.declared.Walked.{Walked}
 use Rattle.walks.specs.declared.Walked.the-variants.{On, Nowhere}
 
@@ -38,12 +42,18 @@ abbrev pub Starts : ℕ → ℕ → List Sign → Type 0
 Starts stop at [] = Unit {0}
 Starts stop at (s ∷ ss) = (at < stop) × (1 ≤ length (s .taken)) × CodedSign s × Starts stop (at + length (s .taken)) ss
 
--- they lead from a place, a mode and the open pairs to others
+-- every byte from a place up to another is a cell
+abbrev pub CellsFrom : Row → ℕ → ℕ → Type 0
+CellsFrom row at k = (i : ℕ) → at ≤ i → i < k → getD row i 0 ≤ lastCell
+
+-- they lead from a place, a mode and the open pairs to others; all are of cells, and they have no more code points than cells, but for a cell to spare
 pub record Leads (row : Row) (stop at m o k n u : ℕ) (ss : List Sign) : Type 0 where
   pub left-is : left m o (drop at row) ≡ addSigns ss (left n u (drop k row))
   pub next-is : k ≡ at + length (cellsOf ss)
   pub starts : Starts stop at ss
   pub within : k ≤ length row
+  pub cells : CellsFrom row at k
+  pub thrift : length (printOf ss) + spare n + at ≤ k + spare m
   pub mode : n < modeCount
   pub opens : u < openStates
 
@@ -52,8 +62,23 @@ pub data Runs (row : Row) (stop at m o n : ℕ) (t t' : List ℕ) : Walked → T
   runs-on : (ss : List Sign) (k m' u c : ℕ) → Leads row stop at m o k m' u ss → c ≡ n + length (printOf ss) → Wrote t t' n (printOf ss)
       → Runs row stop at m o n t t' (On k m' u c)
 
--- WHAT A WALK FINDS over a part of the row, and what it writes
-pub data Goes (row : Row) (stop at m o : ℕ) (t t' : List ℕ) : Walked → Type 0 where
-  goes-on : (ss : List Sign) (k n u c : ℕ) → Leads row stop at m o k n u ss → stop ≤ k → c ≡ length (printOf ss) → Wrote t t' 0 (printOf ss)
-      → Goes row stop at m o t t' (On k n u c)
-  goes-nowhere : left m o (drop at row) ≡ none → length t' ≡ length t → Goes row stop at m o t t' Nowhere
+-- WHAT A WALK FINDS over a part of the row, behind n code points, and what it writes
+pub data Goes (row : Row) (stop at m o n : ℕ) (t t' : List ℕ) : Walked → Type 0 where
+  goes-on : (ss : List Sign) (k m' u c : ℕ) → Leads row stop at m o k m' u ss → stop ≤ k → c ≡ n + length (printOf ss) → Wrote t t' n (printOf ss)
+      → Goes row stop at m o n t t' (On k m' u c)
+  goes-nowhere : (k : ℕ) → k ≤ length row → CellsFrom row at k → left m o (drop at row) ≡ none → length t' ≡ length t → Goes row stop at m o n t t' (Nowhere k)
+
+-- CELLS THAT ARE ONLY COUNTED: of a row whose every byte is a cell
+abbrev pub AllCells : Row → Type 0
+AllCells row = (i : ℕ) → i < length row → getD row i 0 ≤ lastCell
+
+-- small letters and signs of one cell, from a place up to another
+pub record Alone (row : Row) (at k : ℕ) : Type 0 where
+  pub forward : at ≤ k
+  pub within : k ≤ length row
+  pub alone : (i : ℕ) → at ≤ i → i < k → aloneCell (getD row i 0) ≡ true
+
+-- none, but in a mode that reads them so and where there is no room
+pub record Tallied (row : Row) (at m room n k : ℕ) : Type 0 where
+  pub are : Alone row at k
+  pub only : at < k → (room ≤ n) × ((m ≡ free) ⊎ (m ≡ mixed))

@@ -1,25 +1,28 @@
-// A walk over a part of a row, sign by sign. Between two signs it knows a mode and which pairs are open; both follow from the cells before. What is read is
-// written to a lent text, if there is room for it. What a walk finds is specs/Walks.antt.
+// A walk over a part of a row, sign by sign (`walk`), and over a whole row of cells (`walk_row`). Between two signs it knows a mode and which pairs are open; both
+// follow from the cells before. What is read is written to a lent text, if there is room for it. What a walk finds is specs/Walks.antt.
 use readings::ALIKE;
 use readings::DASH;
+use readings::FREE;
 use readings::MID;
+use readings::MIXED;
 use readings::NO_POINT;
 use readings::OWING;
 use readings::Step;
 use signs::LAST_CELL;
 use signs::NO_RUN;
+ghost use mathlib.Core.List.{List};
 ghost use mathlib.Core.Path.{_≡_};
-ghost use Prim.Native.Nat.{_+_, _*_, _≤_, _<_};
+ghost use Prim.Native.Nat.{ℕ, _+_, _*_, _≤_, _<_};
 ghost use lib.ListN.{length};
 ghost use Rattle.rules.specs.Refusals.{longestRow};
 ghost use Rattle.pairs.specs.Opened.{openStates};
-ghost use Rattle.readings.specs.Modes.{modeCount, owing, dash};
+ghost use Rattle.readings.specs.Modes.{modeCount, free, owing, dash};
 ghost use Rattle.readings.specs.Print.{points};
 ghost use Rattle.signs.specs.Runs.{noRun, runOf};
-ghost use Rattle.walks.specs.Walks.{mostPoints, Wrote, Runs, Goes};
+ghost use Rattle.walks.specs.Walks.{mostPoints, Wrote, Runs, Goes, AllCells, Alone, Tallied};
 
 // What a walk over a part of the row finds: the place that it comes to, what the signs up to it leave (the mode and the open pairs), and how many code
-// points they have; or that no text has the row.
+// points are counted; or that no text has the row, and a place before which every byte that it walked over is a cell.
 pub enum Walked {
     On {
         at: usize,
@@ -27,19 +30,19 @@ pub enum Walked {
         opened: usize,
         count: usize,
     },
-    Nowhere,
+    Nowhere(usize),
 }
 
-// Writes a sign's code points behind those that are counted, if there is room for them, and counts them. (The test of the lead comes first: where it is known
-// that there is none, one test is left.)
+// Writes a sign's code points behind those that are counted, if there is room for them, and counts them. (Where there is none for one, the last element is
+// written, for which it is too late: so the machine has nowhere to jump.)
 fn put(text: &mut [u32], count: usize, lead: u32, point: u32) -> usize
-    requires { ⌜ count ≤ mostPoints ⌝ }
+    requires { ⌜ (count ≤ mostPoints) × (1 ≤ length (now text)) ⌝ }
     ensures { λ r. ⌜ (r ≡ count + length (points lead point)) × Wrote (now (text .entry)) (now (text .exit)) count (points lead point) ⌝ }
 {
     if lead == NO_POINT {
-        if count < text.len() {
-            text[count] = point;
-        }
+        let last = text.len() - 1;
+        let place = if count < last { count } else { last };
+        text[place] = point;
         return count + 1;
     }
     if count + 2 <= text.len() {
@@ -59,7 +62,7 @@ fn dashes(
     text: &mut [u32],
     counted: usize,
 ) -> Walked
-    requires { ⌜ (length (now row) ≤ longestRow) × (from ≤ length (now row)) × (stop ≤ length (now row)) × (unclosed < openStates) × (counted ≤ 2 * from) ⌝ }
+    requires { ⌜ (length (now row) ≤ longestRow) × (from ≤ length (now row)) × (stop ≤ length (now row)) × (unclosed < openStates) × (counted ≤ 2 * from) × (1 ≤ length (now text)) ⌝ }
     ensures { λ r. ⌜ Runs (now (row .entry)) stop from dash unclosed counted (now (text .entry)) (now (text .exit)) r ⌝ }
 {
     let mut at: usize = from;
@@ -100,7 +103,7 @@ fn capitals(
     text: &mut [u32],
     counted: usize,
 ) -> Walked
-    requires { ⌜ (length (now row) ≤ longestRow) × (from ≤ length (now row)) × (stop ≤ length (now row)) × (unclosed < openStates) × (counted ≤ 2 * from) ⌝ }
+    requires { ⌜ (length (now row) ≤ longestRow) × (from ≤ length (now row)) × (stop ≤ length (now row)) × (unclosed < openStates) × (counted ≤ 2 * from) × (1 ≤ length (now text)) ⌝ }
     ensures { λ r. ⌜ Runs (now (row .entry)) stop from owing unclosed counted (now (text .entry)) (now (text .exit)) r ⌝ }
 {
     let mut at: usize = from;
@@ -142,7 +145,7 @@ fn run(
     text: &mut [u32],
     counted: usize,
 ) -> Walked
-    requires { ⌜ (length (now row) ≤ longestRow) × (from ≤ length (now row)) × (stop ≤ length (now row)) × (begun < modeCount) × (unclosed < openStates) × (counted ≤ 2 * from) × (runOf begun < noRun) ⌝ }
+    requires { ⌜ (length (now row) ≤ longestRow) × (from ≤ length (now row)) × (stop ≤ length (now row)) × (begun < modeCount) × (unclosed < openStates) × (counted ≤ 2 * from) × (1 ≤ length (now text)) × (runOf begun < noRun) ⌝ }
     ensures { λ r. ⌜ Runs (now (row .entry)) stop from begun unclosed counted (now (text .entry)) (now (text .exit)) r ⌝ }
 {
     let field = signs::run_of(begun);
@@ -187,7 +190,7 @@ fn alike(
     text: &mut [u32],
     counted: usize,
 ) -> Walked
-    requires { ⌜ (length (now row) ≤ longestRow) × (from ≤ length (now row)) × (stop ≤ length (now row)) × (begun < modeCount) × (unclosed < openStates) × (counted ≤ 2 * from) ⌝ }
+    requires { ⌜ (length (now row) ≤ longestRow) × (from ≤ length (now row)) × (stop ≤ length (now row)) × (begun < modeCount) × (unclosed < openStates) × (counted ≤ 2 * from) × (1 ≤ length (now text)) ⌝ }
     ensures { λ r. ⌜ Runs (now (row .entry)) stop from begun unclosed counted (now (text .entry)) (now (text .exit)) r ⌝ }
 {
     if begun == DASH {
@@ -208,8 +211,8 @@ fn alike(
 }
 
 // "each step gives the print of the next sign and the place after it." From a place, where a sign starts, with what the signs before it leave (`begun` is the
-// mode, `unclosed` are the open pairs), as long as the next sign starts before the place `stop`. Their print is written from the first element on, if there
-// is room. A sign that leaves the mode as it found it may be one of many, and behind a point inside a number stands a digit: those that follow alike are read at
+// mode, `unclosed` are the open pairs), as long as the next sign starts before the place `stop`. Their print is written behind the code points that are counted,
+// if there is room. A sign that leaves the mode as it found it may be one of many, and behind a point inside a number stands a digit: those that follow alike are read at
 // once. (Behind most signs nothing may follow alike, so that is asked first: their modes are the lowest.)
 pub fn walk(
     row: &[u8],
@@ -218,18 +221,19 @@ pub fn walk(
     begun: usize,
     unclosed: usize,
     text: &mut [u32],
+    counted: usize,
 ) -> Walked
-    requires { ⌜ (length (now row) ≤ longestRow) × (from ≤ length (now row)) × (stop ≤ length (now row)) × (begun < modeCount) × (unclosed < openStates) ⌝ }
-    ensures { λ r. ⌜ Goes (now (row .entry)) stop from begun unclosed (now (text .entry)) (now (text .exit)) r ⌝ }
+    requires { ⌜ (length (now row) ≤ longestRow) × (from ≤ length (now row)) × (stop ≤ length (now row)) × (begun < modeCount) × (unclosed < openStates) × (counted ≤ 2 * from) × (1 ≤ length (now text)) ⌝ }
+    ensures { λ r. ⌜ Goes (now (row .entry)) stop from begun unclosed counted (now (text .entry)) (now (text .exit)) r ⌝ }
 {
     let mut mode: usize = begun;
     let mut opened: usize = unclosed;
-    let mut count: usize = 0;
+    let mut count: usize = counted;
     let mut at: usize = from;
     while at < stop {
         let cell = row[at];
         if LAST_CELL < cell {
-            return Walked::Nowhere;
+            return Walked::Nowhere(at);
         }
         let word = signs::word_of(cell);
         if signs::is_usual(word, mode) {
@@ -241,7 +245,7 @@ pub fn walk(
                 opened: opened_after,
             } = signs::usual(word, at, opened)
             else {
-                return Walked::Nowhere;
+                return Walked::Nowhere(at);
             };
             count = put(text, count, lead, point);
             mode = mode_after;
@@ -256,7 +260,7 @@ pub fn walk(
                 opened: opened_after,
             } = signs::sign_at(row, at, word, mode, opened)
             else {
-                return Walked::Nowhere;
+                return Walked::Nowhere(at);
             };
             count = put(text, count, lead, point);
             if ALIKE <= mode_after && (mode_after == mode || mode_after == MID) {
@@ -267,7 +271,7 @@ pub fn walk(
                     count: count_last,
                 } = alike(row, next, stop, mode_after, opened_after, text, count)
                 else {
-                    return Walked::Nowhere;
+                    return Walked::Nowhere(at);
                 };
                 count = count_last;
                 mode = mode_last;
@@ -279,6 +283,122 @@ pub fn walk(
                 at = next;
             }
         }
+    }
+    Walked::On {
+        at,
+        mode,
+        opened,
+        count,
+    }
+}
+
+// How many cells are walked at once where nothing is written any more.
+const PART: usize = 1024;
+
+// The place behind the small letters and the signs of one cell that stand from a place on. (Every byte is a cell, so nothing else is asked of it.)
+fn behind_alone(row: &[u8], from: usize) -> usize
+    requires { ⌜ (from ≤ length (now row)) × AllCells (now row) ⌝ }
+    ensures { λ r. ⌜ Alone (now (row .entry)) from r ⌝ }
+{
+    let mut at: usize = from;
+    while at < row.len() {
+        if !signs::is_alone(row[at]) {
+            return at;
+        }
+        at += 1;
+    }
+    at
+}
+
+// The same in a mode that reads them so, where there is no room for them; otherwise the place itself.
+fn behind_tallied(row: &[u8], from: usize, begun: usize, room: usize, counted: usize) -> usize
+    requires { ⌜ (from ≤ length (now row)) × AllCells (now row) ⌝ }
+    ensures { λ r. ⌜ Tallied (now (row .entry)) from begun room counted r ⌝ }
+{
+    if counted < room {
+        return from;
+    }
+    match begun {
+        FREE => behind_alone(row, from),
+        MIXED => behind_alone(row, from),
+        _ => from,
+    }
+}
+
+// What there is no room for is only counted, and such cells are counted at once. (They are most of a text, and so its length is soon known where it is too long.)
+fn tally(
+    row: &[u8],
+    from: usize,
+    begun: usize,
+    unclosed: usize,
+    room: usize,
+    counted: usize,
+) -> Walked
+    requires { ⌜ (length (now row) ≤ longestRow) × (from ≤ length (now row)) × AllCells (now row) × (begun < modeCount) × (unclosed < openStates) × (counted ≤ 2 * from) ⌝ }
+    ensures { λ r. ⌜ ((t : List ℕ) → length t ≡ room → Runs (now (row .entry)) (length (now (row .entry))) from begun unclosed counted t t r) ⌝ }
+{
+    let end = behind_tallied(row, from, begun, room, counted);
+    if end == from {
+        return Walked::On {
+            at: from,
+            mode: begun,
+            opened: unclosed,
+            count: counted,
+        };
+    }
+    Walked::On {
+        at: end,
+        mode: signs::mode_behind(row[end - 1]),
+        opened: unclosed,
+        count: counted + (end - from),
+    }
+}
+
+// Up to where the next part of a row goes: as many cells as there is room for code points, and behind that PART.
+fn part_end(at: usize, end: usize, room: usize, counted: usize) -> usize
+    requires { ⌜ (at ≤ end) × (end ≤ longestRow) ⌝ }
+    ensures { λ r. ⌜ (r ≤ end) × (at ≤ r) × (at < end → at < r) ⌝ }
+{
+    let part = if counted < room { room - counted } else { PART };
+    if end - at <= part {
+        return end;
+    }
+    at + part
+}
+
+// A whole row of cells, part by part: what a walk over it finds. Where the text is full, the rest is only counted.
+pub fn walk_row(row: &[u8], text: &mut [u32]) -> Walked
+    requires { ⌜ (length (now row) ≤ longestRow) × AllCells (now row) × (1 ≤ length (now text)) ⌝ }
+    ensures { λ r. ⌜ Goes (now (row .entry)) (length (now (row .entry))) 0 free 0 0 (now (text .entry)) (now (text .exit)) r ⌝ }
+{
+    let mut mode: usize = FREE;
+    let mut opened: usize = 0;
+    let mut count: usize = 0;
+    let mut at: usize = 0;
+    while at < row.len() {
+        let Walked::On {
+            at: near,
+            mode: mode_near,
+            opened: opened_near,
+            count: count_near,
+        } = tally(row, at, mode, opened, text.len(), count)
+        else {
+            return Walked::Nowhere(at);
+        };
+        let stop = part_end(near, row.len(), text.len(), count_near);
+        let Walked::On {
+            at: next,
+            mode: mode_next,
+            opened: opened_next,
+            count: count_next,
+        } = walk(row, near, stop, mode_near, opened_near, text, count_near)
+        else {
+            return Walked::Nowhere(row.len());
+        };
+        mode = mode_next;
+        opened = opened_next;
+        count = count_next;
+        at = next;
     }
     Walked::On {
         at,

@@ -7,7 +7,7 @@ use borrow.Author.Needs.{needs}
 use lib.ListN.{length}
 use Rattle.signs.specs.Runs.{noRun, runOf}
 use Rattle.readings.proofs.Turning.{Turn}
-use Rattle.walks.proofs.Walking.{Mid, mid-start, mid-most, mid-on, mid-runs, run-turn}
+use Rattle.walks.proofs.Walking.{Mid, mid-start, mid-put, mid-on, mid-runs, run-turn}
 use Rattle.walks.proofs.run.Statement.{statement}
 use Rattle.walks.proofs.run.Tie as tie
 use Rattle.walks.proofs.run.Reads as reads
@@ -64,7 +64,7 @@ loop-holds c =
 run-at-requires : tie.Need-run-at-requires Inv-loop μ-loop
 run-at-requires c κs =
     let o = c .before .before in
-    (start c .pre .0, inside c, c .before .loop .inv .0 .leads .mode, c .before .loop .inv .1, omega (arith, o .run-of .ensures, start c .pre .6))
+    (start c .pre .0, inside c, c .before .loop .inv .0 .leads .mode, c .before .loop .inv .1, omega (arith, o .run-of .ensures, start c .pre .7))
 
 enum-known-lead : tie.Need-enum-known-lead Inv-loop μ-loop
 enum-known-lead c = search needs
@@ -79,7 +79,7 @@ returns : tie.Need-returns Inv-loop μ-loop
 returns c = mid-runs (c .before .before .before .before .loop .inv .0)
 
 put-requires : tie.Need-put-requires Inv-loop μ-loop
-put-requires c κs = let i = in-k (c .before) in mid-most (i .before .loop .inv .0) (start i .pre .0) (start i .pre .5)
+put-requires c κs = let i = in-k (c .before) in mid-put (i .before .loop .inv .0) (start i .pre .0) (start i .pre .5) (start i .pre .6)
 
 loop-less : tie.Need-loop-less Inv-loop μ-loop
 loop-less c = let t = turn (c .before .before .before .before) .1 in omega (arith, t .forward, t .within)

@@ -3,7 +3,7 @@
 use mathlib.Core.Path.{_≡_, sym, _∙_}
 use mathlib.Core.List.{List}
 use mathlib.Core.Option.{none}
-use Prim.Native.Nat.{ℕ, _-_, _<_, zero-le}
+use Prim.Native.Nat.{ℕ, _-_, _<_}
 use native.Mathlib.Omega.{arith}
 use borrow.Author.Needs.{needs}
 use lib.ListN.{length, drop}
@@ -14,7 +14,7 @@ use Rattle.readings.specs.Left.{left}
 use Rattle.readings.specs.declared.Step.the-variants.{Nothing}
 use Rattle.signs.proofs.Cases.{word-there, as-usual, kind-known, no-cell}
 use Rattle.readings.proofs.Turning.{Turn, turn-of, none-left}
-use Rattle.walks.proofs.Walking.{Mid, mid-start, mid-few, mid-most, mid-on, mid-more, mid-nowhere, mid-end, runs-somewhere, runs-forward}
+use Rattle.walks.proofs.Walking.{Mid, mid-start, mid-few, mid-put, mid-on, mid-more, mid-nowhere, mid-end, runs-somewhere, runs-forward}
 use Rattle.walks.proofs.walk.Statement.{statement}
 use Rattle.walks.proofs.walk.Tie as tie
 use Rattle.walks.proofs.walk.Reads as reads
@@ -27,10 +27,11 @@ use Rattle.signs.proofs.usual.Reads as usual-reads
 use Rattle.signs.proofs.word_of.Reads as word-of-reads
 
 abbrev Inv-loop : tie.InvT-loop
-Inv-loop row from stop begun unclosed text₀ mode₀ opened₀ count₀ at₀ text mode opened count at = Mid row stop from begun unclosed 0 text₀ text mode opened count at
+Inv-loop row from stop begun unclosed text₀ counted mode₀ opened₀ count₀ at₀ text mode opened count at =
+    Mid row stop from begun unclosed counted text₀ text mode opened count at
 
 abbrev μ-loop : tie.MeasureT-loop
-μ-loop row from stop begun unclosed text₀ mode₀ opened₀ count₀ at₀ text mode opened count at = length row - at
+μ-loop row from stop begun unclosed text₀ counted mode₀ opened₀ count₀ at₀ text mode opened count at = length row - at
 
 -- THE PLACES: a turn begins; the word of the cell is at hand; it is read as usual, or by the inner step, and the sign is known
 abbrev L : Type 0
@@ -136,7 +137,7 @@ stuck i e =
 loop-holds : tie.Need-loop-holds Inv-loop μ-loop
 loop-holds c =
     let s = c .before .before in
-    mid-start (s .args .row .now) (s .args .stop) (s .args .from) (s .args .begun) (s .args .unclosed) 0 (s .args .text .now) (s .pre .1) (s .pre .3) (s .pre .4)
+    mid-start (s .args .row .now) (s .args .stop) (s .args .from) (s .args .begun) (s .args .unclosed) (s .args .counted) (s .args .text .now) (s .pre .1) (s .pre .3) (s .pre .4)
 
 shared-slice-read-cell : tie.Need-shared-slice-read-cell Inv-loop μ-loop
 shared-slice-read-cell c = inside (c .before)
@@ -181,7 +182,7 @@ returns-2 c =
     mid-nowhere (at-w w .loop .inv) (stuck (in-w w) (sym (as-read u) ∙ c .enum-told .given .1))
 
 put-requires : tie.Need-put-requires Inv-loop μ-loop
-put-requires c κs = let l = at-w (of-k (c .before)) in mid-most (l .loop .inv) (start l .pre .0) zero-le
+put-requires c κs = let l = at-w (of-k (c .before)) in mid-put (l .loop .inv) (start l .pre .0) (start l .pre .5) (start l .pre .6)
 
 loop-less : tie.Need-loop-less Inv-loop μ-loop
 loop-less c = let t = turn (c .before .before .before .before) in omega (arith, t .forward, t .within)
@@ -214,7 +215,7 @@ returns-3 c =
     mid-nowhere (at-w w .loop .inv) (stuck (in-w w) (sym (a .sign-at .ensures) ∙ c .enum-told2 .given .1))
 
 put-requires-2 : tie.Need-put-requires-2 Inv-loop μ-loop
-put-requires-2 c κs = let l = at-w (of-j (c .before)) in mid-most (l .loop .inv) (start l .pre .0) zero-le
+put-requires-2 c κs = let l = at-w (of-j (c .before)) in mid-put (l .loop .inv) (start l .pre .0) (start l .pre .5) (start l .pre .6)
 
 -- the sign is put, and what follows alike is read
 abbrev P : Type 0
@@ -229,7 +230,7 @@ alike-requires c κs =
     let k = j-of p in
     let l = at-w (of-j k) in
     let m = mid-on (l .loop .inv) (turn2 k) (in-w (of-j k) .loop-test .taken) (p .put2 .ensures) in
-    (start l .pre .0, m .leads .within, start l .pre .2, m .leads .mode, m .leads .opens, mid-few m zero-le)
+    (start l .pre .0, m .leads .within, start l .pre .2, m .leads .mode, m .leads .opens, mid-few m (start l .pre .5), omega (arith, m .wrote .0, start l .pre .6))
 
 enum-known-at-last : tie.Need-enum-known-at-last Inv-loop μ-loop
 enum-known-at-last c = search needs
