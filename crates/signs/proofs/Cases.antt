@@ -64,6 +64,20 @@ module _ (r : Row) (n : ℕ) where
       ⊎-elim (λ h. ap wordOf (cell-low l h))
       (λ h. List·getD-eq-default words 0 {n = getD r n 0} h ∙ ap wordOf (cell-high l h)) (le-or-lt (getD r n 0) lastCell)
 
+  -- the byte at a place, and past the row's end; its word is that of the cell
+  pub byte-there : n < length r → getD r n 0 ≡ getD r n noCell
+  byte-there l = inside-any r n 0 noCell l
+
+  pub byte-past : length r ≤ n → noCell ≡ getD r n noCell
+  byte-past l = sym (List·getD-eq-default r noCell {n = n} l)
+
+  pub byte-word : wordOf (getD r n noCell) ≡ wordOf (cellOf r n)
+  unfolding words
+  byte-word =
+      ⊎-elim (λ h. ap (λ (b : Bool). wordOf (cond b (getD r n noCell) noCell)) (sym (le-leb (getD r n noCell) lastCell h)))
+      (λ h. List·getD-eq-default words 0 {n = getD r n noCell} h ∙ ap (λ (b : Bool). wordOf (cond b (getD r n noCell) noCell)) (sym (lt-leb (getD r n noCell) lastCell h)))
+      (le-or-lt (getD r n noCell) lastCell)
+
 -- THE MODES AT REST
 abbrev pub owes : List ℕ
 owes = mode.owing ∷ mode.whole1 ∷ mode.low ∷ mode.under1 ∷ mode.mid ∷ []

@@ -1,6 +1,7 @@
 // The inner step of reading: the sign that starts at a place of a row, from the mode and the open pairs that the signs before it leave. Most cells are read
 // as usual (`usual`), as their small letter, their sign or their pair mark; where the mode asks for another reading (`sign_at`), the table says which
-// (tools/readings.txt). Signs that follow one another alike have quick readings besides (`run_at`, `dash_at`, `owed_at`).
+// (tools/readings.txt). Signs that follow one another alike have quick readings besides (`run_at`, `dash_at`, `owed_at`); of a cell that is its letter or its sign in
+// a word and where nothing is begun, a bit tells it (`is_alone`, `mode_behind`).
 use readings::BEGINS_RUN;
 use readings::CAPITAL_OF_MANY;
 use readings::DASH;
@@ -103,14 +104,14 @@ use readings::then_in;
 ghost use mathlib.Core.Bool.{true, false};
 ghost use mathlib.Core.Path.{_≡_};
 ghost use Prim.Native.Nat.{ℕ, _+_, _<_, _≤_};
-ghost use lib.ListN.{length};
+ghost use lib.ListN.{length, getD};
 ghost use Rattle.rules.specs.Cells.{lastCell};
 ghost use Rattle.rules.specs.Pairs.{kinds};
 ghost use Rattle.rules.specs.Refusals.{longestRow};
 ghost use Rattle.rules.proofs.Machine.{at-rest};
 ghost use Rattle.pairs.specs.Opened.{openStates};
 ghost use Rattle.readings.specs.Modes.{modeOf, modeCount, owing, num, mid, dash};
-ghost use Rattle.readings.specs.Fields.{pointIn, kindIn, thenIn, usualIn, runPoint, cellOf};
+ghost use Rattle.readings.specs.Fields.{pointIn, kindIn, thenIn, usualIn, runPoint, noCell, cellOf};
 ghost use Rattle.readings.specs.Words.{wordOf};
 ghost use Rattle.readings.specs.Readings.{noPoint, usualBy, markStep, digitCell, stepOf, capitalBy, numberBy, percentBy, prefixBy, askedBy, stepAt};
 ghost use Rattle.signs.specs.Among.{cellAmong, lowerCell, aloneCell};
@@ -240,6 +241,16 @@ fn cell_at(row: &[u8], place: usize) -> u8
         if cell <= LAST_CELL {
             return cell;
         }
+    }
+    NO_CELL
+}
+
+// The byte at a place, and NO_CELL past the row's end. (For a look-up, which gives nothing for a byte that is no cell.)
+fn byte_at(row: &[u8], place: usize) -> u8
+    ensures { λ r. ⌜ r ≡ getD (now (row .entry)) place noCell ⌝ }
+{
+    if place < row.len() {
+        return row[place];
     }
     NO_CELL
 }
@@ -595,7 +606,7 @@ pub fn owed_at(row: &[u8], at: usize, opened: usize) -> Step
     if row[at] != D46 {
         return Step::Nothing;
     }
-    let letter = cells::capital_owed(cell_at(row, at + 1));
+    let letter = cells::capital_owed(byte_at(row, at + 1));
     if letter == NO_POINT {
         return Step::Nothing;
     }

@@ -6,13 +6,13 @@ use native.Mathlib.Omega.{arith}
 use Rattle.rules.specs.Cells.{dots}
 use Rattle.readings.specs.Fields.{capitalIn}
 use Rattle.readings.specs.Words.{wordOf}
-use Rattle.signs.proofs.Cases.{cell-low, owed-step}
+use Rattle.signs.proofs.Cases.{cell-low, byte-word, owed-step}
 use borrow.Author.Needs.{needs}
 use Rattle.signs.proofs.owed_at.Statement.{statement}
 use Rattle.signs.proofs.owed_at.Tie as tie
 use Rattle.signs.proofs.owed_at.Reads as reads
 use Rattle.signs.proofs.owed_at.Lts as lts
-use Rattle.signs.proofs.cell_at.Reads as cell-at-reads
+use Rattle.signs.proofs.byte_at.Reads as byte-at-reads
 use Rattle.readings.proofs.cells.capital_owed.Reads as capital-owed-reads
 use Rattle.signs.proofs.sign.Reads as sign-reads
 
@@ -22,11 +22,11 @@ shared-slice-read-if1 c = search needs
 returns : tie.Need-returns
 returns c = inl refl
 
-add-cell-at : tie.Need-add-cell-at
-add-cell-at c = search needs
+add-byte-at : tie.Need-add-byte-at
+add-byte-at c = search needs
 
-cell-at-requires : tie.Need-cell-at-requires
-cell-at-requires c κs = search needs
+byte-at-requires : tie.Need-byte-at-requires
+byte-at-requires c κs = search needs
 
 capital-owed-requires : tie.Need-capital-owed-requires
 capital-owed-requires c κs = search needs
@@ -50,7 +50,7 @@ returns-3 c =
     inr (
       c .sign .ensures
           ∙ owed-step (s .args .row .now) (s .args .at) (s .args .opened) (k .capital-owed .result) (sym (cell-low (s .args .row .now) (s .args .at) (s .pre .1) (omega (arith, a .if1 .left))) ∙ a .if1 .left)
-          (k .capital-owed .ensures ∙ ap (λ (y : ℕ). capitalIn (wordOf y)) (b .cell-at .ensures)) (c .before .if2 .left),
+          (k .capital-owed .ensures ∙ ap (λ (y : ℕ). capitalIn (wordOf y)) (b .byte-at .ensures) ∙ ap capitalIn (byte-word (s .args .row .now) (s .args .at + 1))) (c .before .if2 .left),
       (k .capital-owed .result, s .args .at + 2, c .sign .ensures),
     )
 
@@ -60,8 +60,8 @@ owed-at-spec =
     (tie.spec
     shared-slice-read-if1
     returns
-    add-cell-at
-    cell-at-requires
+    add-byte-at
+    byte-at-requires
     capital-owed-requires
     returns-2
     add-sign
