@@ -17,6 +17,10 @@ pub record FirstHigh (r : Row) (n : ℕ) : Type 0 where
   pub below : (m : ℕ) → m < n → getD r m 0 ≤ lastCell
   pub there : n < length r → lastCell < getD r n 0
 
+-- of a row that is longer than this it is asked before the row is walked
+abbrev pub lineRow : ℕ
+lineRow = 128
+
 -- a refusal of the row, whatever the room
 abbrev pub RefusesRow : Table → Row → Answer → Type 0
 RefusesRow tb r a = (x : Refusal) × (refusalOf a ≡ some x) × RowRefused tb r x

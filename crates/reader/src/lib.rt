@@ -7,10 +7,11 @@ use readings::NO_POINT;
 use signs::LAST_CELL;
 use walks::Walked;
 use walks::walk;
+use walks::walk_row;
 ghost use mathlib.Core.Bool.{_&&_};
 ghost use mathlib.Core.Logic.{_⊎_};
 ghost use mathlib.Core.Path.{_≡_};
-ghost use Prim.Native.Nat.{ℕ, _*_, _≤_, _<_};
+ghost use Prim.Native.Nat.{ℕ, _≤_, _<_};
 ghost use lib.Dec.{eqb};
 ghost use lib.ListN.{length, getD};
 ghost use Rattle.rules.specs.Cells.{Text};
@@ -19,9 +20,10 @@ ghost use Rattle.rules.specs.Rows.{Reads};
 ghost use Rattle.rules.specs.Refusals.{longestRow, longestText, reported};
 ghost use Rattle.rules.proofs.Machine.{at-rest};
 ghost use Rattle.rows.specs.Laid.{laid};
-ghost use Rattle.readings.specs.Modes.{modeOf, modeCount};
+ghost use Rattle.readings.specs.Modes.{modeOf, modeCount, free};
+ghost use Rattle.walks.specs.Walks.{CellsFrom, AllCells, Goes};
 ghost use Rattle.reader.specs.Promise.{Read};
-ghost use Rattle.reader.specs.Passes.{FirstHigh, RefusesRow};
+ghost use Rattle.reader.specs.Passes.{FirstHigh, RefusesRow, lineRow};
 
 // The answer to a row. `Done` has the count of code points written; any other is a refusal, and the lent text is then as it was. Paper 01's number and
 // second number for each are given by `Promise.refusalOf`.
@@ -42,22 +44,14 @@ pub const LONGEST_ROW: usize = 12288;
 
 pub const LONGEST_TEXT: usize = 4096;
 
-// Rows that are read by way of a shorter draft: a row has at most two code points for each cell.
+// Rows that are read by way of a shorter draft: no text has more code points than its row has cells.
 const WORD_ROW: usize = 16;
-
-const WORD_DRAFT: usize = 32;
 
 const SHORT_ROW: usize = 64;
 
-const SHORT_DRAFT: usize = 128;
-
 const LINE_ROW: usize = 128;
 
-const LINE_DRAFT: usize = 256;
-
 const MIDDLE_ROW: usize = 512;
-
-const MIDDLE_DRAFT: usize = 1024;
 
 // "A length above 4,294,967,295 is reported as that number."
 const MOST_REPORTED: usize = 4294967295;
@@ -79,12 +73,13 @@ pub fn ends(mode: usize, opened: usize) -> bool
     false
 }
 
-// The greatest byte of the row. (This loop has no way out but its end, so that the machine takes many bytes at once.)
-fn greatest(row: &[u8]) -> u8
-    ensures { λ r. ⌜ ((n : ℕ) → n < length (now (row .entry)) → getD (now (row .entry)) n 0 ≤ r) ⌝ }
+// The greatest byte from a place on. (This loop has no way out but its end, so that the machine takes many bytes at once.)
+fn greatest(row: &[u8], from: usize) -> u8
+    requires { ⌜ from ≤ length (now row) ⌝ }
+    ensures { λ r. ⌜ ((n : ℕ) → from ≤ n → n < length (now (row .entry)) → getD (now (row .entry)) n 0 ≤ r) ⌝ }
 {
     let mut most: u8 = 0;
-    let mut place: usize = 0;
+    let mut place: usize = from;
     while place < row.len() {
         let byte = row[place];
         if most < byte {
@@ -95,14 +90,15 @@ fn greatest(row: &[u8]) -> u8
     most
 }
 
-// The place of the first byte above 63, or the row's length. (Few rows have one, and the greatest byte says so fastest.)
-fn first_high(row: &[u8]) -> usize
+// The place of the first byte above 63, or the row's length; before the place `from` there is none. (Few rows have one, and the greatest byte says so fastest.)
+fn first_high(row: &[u8], from: usize) -> usize
+    requires { ⌜ (from ≤ length (now row)) × CellsFrom (now row) 0 from ⌝ }
     ensures { λ r. ⌜ FirstHigh (now (row .entry)) r ⌝ }
 {
-    if greatest(row) <= LAST_CELL {
+    if greatest(row, from) <= LAST_CELL {
         return row.len();
     }
-    let mut place: usize = 0;
+    let mut place: usize = from;
     while place < row.len() {
         if LAST_CELL < row[place] {
             return place;
@@ -112,12 +108,12 @@ fn first_high(row: &[u8]) -> usize
     place
 }
 
-// Why a row has no text: a byte of it is no cell, or no text of any length has these cells.
-pub fn unread(row: &[u8]) -> Answer
-    requires { ⌜ (length (now row) ≤ longestRow) × ((t : Text) → Reads castilian (now row) t → ⊥) ⌝ }
+// Why a row has no text: a byte of it is no cell, or no text of any length has these cells. Before the place `from` all are cells.
+pub fn unread(row: &[u8], from: usize) -> Answer
+    requires { ⌜ (length (now row) ≤ longestRow) × (from ≤ length (now row)) × CellsFrom (now row) 0 from × ((t : Text) → Reads castilian (now row) t → ⊥) ⌝ }
     ensures { λ r. ⌜ RefusesRow castilian (now (row .entry)) r ⌝ }
 {
-    let high = first_high(row);
+    let high = first_high(row, from);
     if high < row.len() {
         return Answer::NotACell(high);
     }
@@ -136,33 +132,44 @@ fn copy(draft: &[u32], text: &mut [u32])
     }
 }
 
+// Walks a whole row. That a longer one is of cells was asked before.
+fn walk_whole(row: &[u8], draft: &mut [u32]) -> Walked
+    requires { ⌜ (length (now row) ≤ longestRow) × (1 ≤ length (now draft)) × (lineRow < length (now row) → AllCells (now row)) ⌝ }
+    ensures { λ r. ⌜ Goes (now (row .entry)) (length (now (row .entry))) 0 free 0 0 (now (draft .entry)) (now (draft .exit)) r ⌝ }
+{
+    if LINE_ROW < row.len() {
+        return walk_row(row, draft);
+    }
+    walk(row, 0, row.len(), FREE, 0, draft, 0)
+}
+
 // Reads a row by way of a draft, which has room for any text of the row, or for the longest that is accepted. The walk is lent nothing that the caller
 // lent, so a refusal leaves that as it was. (One walk and a copy are faster than two walks, the first without room.)
 fn read_by(row: &[u8], draft: &mut [u32], text: &mut [u32]) -> Answer
-    requires { ⌜ (length (now row) ≤ longestRow) × ((2 * length (now row) ≤ length (now draft)) ⊎ (longestText ≤ length (now draft))) ⌝ }
+    requires { ⌜ (length (now row) ≤ longestRow) × (1 ≤ length (now draft)) × (lineRow < length (now row) → AllCells (now row)) × ((length (now row) ≤ length (now draft)) ⊎ (longestText ≤ length (now draft))) ⌝ }
     ensures { λ r. ⌜ Read castilian (now (row .entry)) (now (text .entry)) r (now (text .exit)) ⌝ }
 {
-    let walked = walk(row, 0, row.len(), FREE, 0, draft);
-    let Walked::On {
-        at: _,
-        mode,
-        opened,
-        count,
-    } = walked
-    else {
-        return unread(row);
-    };
-    if !ends(mode, opened) {
-        return unread(row);
+    match walk_whole(row, draft) {
+        Walked::Nowhere(cells) => unread(row, cells),
+        Walked::On {
+            at: _,
+            mode,
+            opened,
+            count,
+        } => {
+            if !ends(mode, opened) {
+                return Answer::NoText;
+            }
+            if LONGEST_TEXT < count {
+                return Answer::TooLong(count);
+            }
+            if text.len() < count {
+                return Answer::NeedsRoom(count);
+            }
+            copy(&draft[..count], text);
+            Answer::Done(count)
+        }
     }
-    if LONGEST_TEXT < count {
-        return Answer::TooLong(count);
-    }
-    if text.len() < count {
-        return Answer::NeedsRoom(count);
-    }
-    copy(&draft[..count], text);
-    Answer::Done(count)
 }
 
 // Cells to print: the answer of the rules for any row and any lent text, which then holds the text from its first element on and is otherwise as it was.
@@ -176,23 +183,23 @@ pub fn read(row: &[u8], text: &mut [u32]) -> Answer
         return Answer::TooLong(reported_length(row.len()));
     }
     if row.len() <= WORD_ROW {
-        let mut draft = [NO_POINT; WORD_DRAFT];
+        let mut draft = [NO_POINT; WORD_ROW];
         return read_by(row, &mut draft, text);
     }
     if row.len() <= SHORT_ROW {
-        let mut draft = [NO_POINT; SHORT_DRAFT];
+        let mut draft = [NO_POINT; SHORT_ROW];
         return read_by(row, &mut draft, text);
     }
     if row.len() <= LINE_ROW {
-        let mut draft = [NO_POINT; LINE_DRAFT];
+        let mut draft = [NO_POINT; LINE_ROW];
         return read_by(row, &mut draft, text);
     }
-    let stray = first_high(row);
+    let stray = first_high(row, 0);
     if stray < row.len() {
         return Answer::NotACell(stray);
     }
     if row.len() <= MIDDLE_ROW {
-        let mut draft = [NO_POINT; MIDDLE_DRAFT];
+        let mut draft = [NO_POINT; MIDDLE_ROW];
         return read_by(row, &mut draft, text);
     }
     let mut draft = [NO_POINT; LONGEST_TEXT];

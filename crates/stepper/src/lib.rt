@@ -52,7 +52,8 @@ pub fn step(row: &[u8], place: usize) -> Shown
     if LONGEST_ROW < row.len() {
         return Shown::Refused(Answer::TooLong(reported_length(row.len())));
     }
-    let mut no_room = [NO_POINT; 1];
+    // what is read before and behind the sign is only counted
+    let mut scrap = [NO_POINT; 1];
     let Walked::On {
         at,
         mode,
@@ -64,10 +65,11 @@ pub fn step(row: &[u8], place: usize) -> Shown
         stop_before(place, row.len()),
         FREE,
         0,
-        &mut no_room[..0],
+        &mut scrap,
+        0,
     )
     else {
-        return Shown::Refused(unread(row));
+        return Shown::Refused(unread(row, 0));
     };
     let mut print = [NO_POINT; 2];
     let Walked::On {
@@ -82,9 +84,10 @@ pub fn step(row: &[u8], place: usize) -> Shown
         mode,
         opened,
         &mut print,
+        0,
     )
     else {
-        return Shown::Refused(unread(row));
+        return Shown::Refused(unread(row, 0));
     };
     let Walked::On {
         at: _,
@@ -97,13 +100,14 @@ pub fn step(row: &[u8], place: usize) -> Shown
         row.len(),
         mode_after,
         opened_after,
-        &mut no_room[..0],
+        &mut scrap,
+        0,
     )
     else {
-        return Shown::Refused(unread(row));
+        return Shown::Refused(unread(row, 0));
     };
     if !ends(mode_last, opened_last) {
-        return Shown::Refused(unread(row));
+        return Shown::Refused(unread(row, 0));
     }
     let count = count_before + width + count_after;
     if LONGEST_TEXT < count {

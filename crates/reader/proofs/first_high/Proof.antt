@@ -1,12 +1,13 @@
--- `first_high`: where the greatest byte is a cell, every byte is. The loop's invariant is that every byte before the place is a cell. The measure is what is left
+-- `first_high`: where the greatest byte from the place on is a cell, every byte is. The loop's invariant is that every byte before the place is a cell. The measure is what is left
 -- of the row. Assumes nothing.
+use mathlib.Core.Logic.{⊎-elim}
 use Prim.Native.Nat.{ℕ, _-_, _≤_, _<_, zero-le}
 use native.Mathlib.Omega.{arith}
-use native.Mathlib.Nat.{not-suc-le-zero}
 use lib.ListN.{length, getD}
 use borrow.Author.Count.{below-more}
 use borrow.Author.Needs.{needs}
 use Rattle.rules.specs.Cells.{lastCell}
+use Rattle.rules.proofs.Finite.{le-or-lt}
 use Rattle.reader.proofs.first_high.Statement.{statement}
 use Rattle.reader.proofs.first_high.Tie as tie
 use Rattle.reader.proofs.first_high.Reads as reads
@@ -14,10 +15,10 @@ use Rattle.reader.proofs.first_high.Lts as lts
 use Rattle.reader.proofs.greatest.Reads as greatest-reads
 
 abbrev Inv-loop : tie.InvT-loop
-Inv-loop row place₀ place = (place ≤ length row) × ((m : ℕ) → m < place → getD row m 0 ≤ lastCell)
+Inv-loop row from place₀ place = (place ≤ length row) × ((m : ℕ) → m < place → getD row m 0 ≤ lastCell)
 
 abbrev μ-loop : tie.MeasureT-loop
-μ-loop row place₀ place = length row - place
+μ-loop row from place₀ place = length row - place
 
 greatest-requires : tie.Need-greatest-requires Inv-loop μ-loop
 greatest-requires c κs = search needs
@@ -26,12 +27,14 @@ returns : tie.Need-returns Inv-loop μ-loop
 returns c =
     record {
       within = omega arith;
-      below = λ m h. omega (arith, c .before .greatest .ensures m h, c .if1 .taken);
+      below = λ m h.
+          ⊎-elim (λ j. omega (arith, c .before .greatest .ensures m j h, c .if1 .taken)) (λ j. c .before .before .before .pre .1 m zero-le j)
+          (le-or-lt (c .before .before .before .args .from) m);
       there = λ h. absurd (omega (arith, h));
     }
 
 loop-holds : tie.Need-loop-holds Inv-loop μ-loop
-loop-holds c = (zero-le, λ m h. absurd (not-suc-le-zero h))
+loop-holds c = let s = c .before .before .before in (s .pre .0, λ m h. s .pre .1 m zero-le h)
 
 shared-slice-read-if2 : tie.Need-shared-slice-read-if2 Inv-loop μ-loop
 shared-slice-read-if2 c = search needs

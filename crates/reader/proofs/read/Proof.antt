@@ -1,10 +1,12 @@
--- `read`: a row that is too long is refused, and so is a longer one with a byte that is no cell; any other is read by way of a draft that has room: two code
--- points a cell, or the longest text. Assumes nothing.
+-- `read`: a row that is too long is refused, and so is a longer one with a byte that is no cell; any other is read by way of a draft that has room: a code
+-- point a cell, or the longest text. Assumes nothing.
 use mathlib.Core.Path.{refl}
 use mathlib.Core.List.{List}
 use mathlib.Core.Logic.{inl, inr}
-use Prim.Native.Nat.{ℕ}
+use Prim.Native.Nat.{ℕ, zero-le}
 use native.Mathlib.Omega.{arith}
+use native.Mathlib.Nat.{not-suc-le-zero}
+use Rattle.walks.specs.Walks.{AllCells}
 use Rattle.reader.proofs.Answering.{row-long, row-not-cells, read-refused}
 use borrow.Author.Needs.{needs}
 use Rattle.reader.proofs.read.Statement.{statement}
@@ -34,7 +36,7 @@ slice-aggregate-read-by : tie.Need-slice-aggregate-read-by
 slice-aggregate-read-by c = search needs
 
 read-by-requires : tie.Need-read-by-requires
-read-by-requires c κs = (omega arith, inl (omega arith))
+read-by-requires c κs = (omega arith, omega arith, λ h. absurd (omega (arith, h)), inl (omega arith))
 
 same-length : tie.Need-same-length
 same-length c = search needs
@@ -46,7 +48,7 @@ slice-aggregate-read-by-2 : tie.Need-slice-aggregate-read-by-2
 slice-aggregate-read-by-2 c = search needs
 
 read-by-requires-2 : tie.Need-read-by-requires-2
-read-by-requires-2 c κs = (omega arith, inl (omega arith))
+read-by-requires-2 c κs = (omega arith, omega arith, λ h. absurd (omega (arith, h)), inl (omega arith))
 
 same-length-2 : tie.Need-same-length-2
 same-length-2 c = search needs
@@ -58,7 +60,7 @@ slice-aggregate-read-by-3 : tie.Need-slice-aggregate-read-by-3
 slice-aggregate-read-by-3 c = search needs
 
 read-by-requires-3 : tie.Need-read-by-requires-3
-read-by-requires-3 c κs = (omega arith, inl (omega arith))
+read-by-requires-3 c κs = (omega arith, omega arith, λ h. absurd (omega (arith, h)), inl (omega arith))
 
 same-length-3 : tie.Need-same-length-3
 same-length-3 c = search needs
@@ -68,7 +70,7 @@ returns-4 c = search needs
 
 -- a longer one
 first-high-requires : tie.Need-first-high-requires
-first-high-requires c κs = search needs
+first-high-requires c κs = (zero-le, λ i h l. absurd (not-suc-le-zero l))
 
 returns-5 : tie.Need-returns-5
 returns-5 c =
@@ -76,11 +78,15 @@ returns-5 c =
     let s = f .before .before .before .before .before .before .before in
     read-refused (row s) _ (row-not-cells (row s) (omega arith) _ (f .first-high .ensures) (c .if5 .taken)) (lent s) (lent s) refl
 
+-- of cells
+all : (e : tie.Else5) → AllCells (row (e .before .before .before .before .before .before .before .before))
+all e i h = e .before .first-high .ensures .below i (omega (arith, e .if5 .left, h))
+
 slice-aggregate-read-by-4 : tie.Need-slice-aggregate-read-by-4
 slice-aggregate-read-by-4 c = search needs
 
 read-by-requires-4 : tie.Need-read-by-requires-4
-read-by-requires-4 c κs = (omega arith, inl (omega arith))
+read-by-requires-4 c κs = (omega arith, omega arith, λ h. all (c .before .before .before), inl (omega arith))
 
 same-length-4 : tie.Need-same-length-4
 same-length-4 c = search needs
@@ -92,7 +98,7 @@ slice-aggregate-read-by-5 : tie.Need-slice-aggregate-read-by-5
 slice-aggregate-read-by-5 c = search needs
 
 read-by-requires-5 : tie.Need-read-by-requires-5
-read-by-requires-5 c κs = (omega arith, inr (omega arith))
+read-by-requires-5 c κs = (omega arith, omega arith, λ h. all (c .before .before .before), inr (omega arith))
 
 same-length-5 : tie.Need-same-length-5
 same-length-5 c = search needs

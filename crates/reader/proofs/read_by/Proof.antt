@@ -11,8 +11,8 @@ use Rattle.rows.specs.Laid.{laid}
 use Rattle.readings.specs.Left.{left}
 use Rattle.walks.specs.Walks.{Wrote}
 use Rattle.reader.proofs.Whole.{left-none, Told}
-use Rattle.reader.proofs.Parts.{Went, went, lost, not-to-end, told-whole, room-whole, written-whole}
-use Rattle.reader.proofs.Answering.{row-long-text, read-cramped, read-done, read-refused}
+use Rattle.reader.proofs.Parts.{Went, went, lost, not-to-end, proper-whole, told-whole, room-whole, written-whole}
+use Rattle.reader.proofs.Answering.{row-no-text, row-long-text, read-cramped, read-done, read-refused}
 use borrow.Author.Needs.{needs}
 use borrow.Author.Tests.{not-true, not-false}
 use Rattle.reader.proofs.read_by.Statement.{statement}
@@ -22,7 +22,7 @@ use Rattle.reader.proofs.read_by.Lts as lts
 use Rattle.reader.proofs.copy.Reads as copy-reads
 use Rattle.reader.proofs.ends.Reads as ends-reads
 use Rattle.reader.proofs.unread.Reads as unread-reads
-use Rattle.walks.proofs.walk.Reads as walk-reads
+use Rattle.reader.proofs.walk_whole.Reads as walk-whole-reads
 
 abbrev row : tie.Start → List ℕ
 row s = s .args .row .now
@@ -33,15 +33,21 @@ draft s = s .args .draft .now
 abbrev lent : tie.Start → List ℕ
 lent s = s .args .text .now
 
--- THE PLACES: the row was walked; the walk came to its end; the row has a text
+-- THE PLACES: the row was walked; the walk came nowhere, or to the row's end; the row has a text
 abbrev W : Type 0
-W = tie.After-walk
+W = tie.After-walk-whole
 
 abbrev start-w : W → tie.Start
 start-w w = w .before .before .before .before .before
 
+abbrev N : Type 0
+N = tie.After-known-told
+
+abbrev from-n : N → W
+from-n n = n .before .before .before .before .before
+
 abbrev K : Type 0
-K = tie.After-known-told
+K = tie.After-known-told2
 
 abbrev from-k : K → W
 from-k k = k .before .before .before .before .before
@@ -50,48 +56,42 @@ abbrev start : K → tie.Start
 start k = start-w (from-k k)
 
 abbrev at : K → ℕ
-at k = k .before .walked .given .0 .0
+at k = k .before .mode .given .0 .0
 
 abbrev mode : K → ℕ
-mode k = k .before .walked .given .0 .1 .0
+mode k = k .before .mode .given .0 .1 .0
 
 abbrev opened : K → ℕ
-opened k = k .before .walked .given .0 .1 .1 .0
+opened k = k .before .mode .given .0 .1 .1 .0
 
 abbrev count : K → ℕ
-count k = k .before .walked .given .0 .1 .1 .1 .0
+count k = k .before .mode .given .0 .1 .1 .1 .0
 
-walk-requires : tie.Need-walk-requires
-walk-requires c κs = search needs
+walk-whole-requires : tie.Need-walk-whole-requires
+walk-whole-requires c κs = search needs
 
-enum-known-walked : tie.Need-enum-known-walked
-enum-known-walked c = search needs
+enum-known-cells : tie.Need-enum-known-cells
+enum-known-cells c = search needs
 
-enum-told : tie.Need-enum-told
-enum-told c = search needs
-
+-- no text has the row, and up to where its bytes are cells
 unread-requires : tie.Need-unread-requires
 unread-requires c κs =
-    let w = c .before .before .before .before in
+    let w = from-n c in
     let s = start-w w in
-    (s .pre .0, left-none (row s) (lost (row s) (length (row s)) 0 0 0 (w .walk .result) (w .walk .ensures) (c .enum-told .given .1)))
+    let l = lost (row s) (length (row s)) 0 0 0 (w .walk-whole .result) (w .walk-whole .ensures) (c .before .cells .given .1) in
+    (s .pre .0, l .within, l .cells, left-none (row s) (l .none-left))
 
-same-length-1 : tie.Need-same-length
-same-length-1 c = search needs
-
-returns : tie.Need-returns
-returns c =
-    let s = start-w (c .before .before .before .before .before) in
-    read-refused (row s) _ (c .unread .ensures) (lent s) (lent s) refl
+enum-known-mode : tie.Need-enum-known-mode
+enum-known-mode c = search needs
 
 -- what the walk found, and what it wrote
 abbrev back : K → List ℕ
-back k = from-k k .walk .last .1 .1 .1 .1 .1 .0
+back k = from-k k .walk-whole .last .1 .0
 
 found : (k : K) → (g : Went (row (start k)) (length (row (start k))) 0 0 0 (at k) (mode k) (opened k) (count k)) × Wrote (draft (start k)) (back k) 0 (printOf (g .signs))
 found k =
     let w = from-k k in
-    went (row (start k)) (length (row (start k))) 0 0 0 (w .walk .result) (at k) (mode k) (opened k) (count k) (w .walk .ensures) (k .before .walked .given .1)
+    went (row (start k)) (length (row (start k))) 0 0 0 (w .walk-whole .result) (at k) (mode k) (opened k) (count k) (w .walk-whole .ensures) (k .before .mode .given .1)
 
 abbrev gone : (k : K) → Went (row (start k)) (length (row (start k))) 0 0 0 (at k) (mode k) (opened k) (count k)
 gone k = found k .0
@@ -99,18 +99,17 @@ gone k = found k .0
 ends-requires : tie.Need-ends-requires
 ends-requires c κs = gone c .leads .mode
 
-unread-requires-2 : tie.Need-unread-requires-2
-unread-requires-2 c κs =
+-- it came to the row's end, and something is open there: the row is of cells
+same-length-1 : tie.Need-same-length
+same-length-1 c = search needs
+
+returns : tie.Need-returns
+returns c =
     let k = c .before .before in
-    (start k .pre .0, left-none (row (start k)) (not-to-end (gone k) (sym (c .before .ends .ensures) ∙ not-true (c .before .ends .result) (c .if1 .taken))))
-
-same-length-2 : tie.Need-same-length-2
-same-length-2 c = search needs
-
-returns-2 : tie.Need-returns-2
-returns-2 c =
-    let s = start (c .before .before .before) in
-    read-refused (row s) _ (c .unread2 .ensures) (lent s) (lent s) refl
+    let s = start k in
+    read-refused (row s) _
+    (row-no-text (row s) (proper-whole (gone k) (s .pre .0))
+    (left-none (row s) (not-to-end (gone k) (sym (c .before .ends .ensures) ∙ not-true (c .before .ends .result) (c .if1 .taken))))) (lent s) (lent s) refl
 
 -- the row has a text
 abbrev E : Type 0
@@ -122,20 +121,20 @@ k-of e = e .before .before
 abbrev told : (e : E) → Told (left 0 0 (row (start (k-of e)))) (count (k-of e))
 told e = told-whole (gone (k-of e)) (sym (e .before .ends .ensures) ∙ not-false (e .before .ends .result) (e .if1 .left))
 
+same-length-2 : tie.Need-same-length-2
+same-length-2 c = search needs
+
+returns-2 : tie.Need-returns-2
+returns-2 c =
+    let e = c .before in
+    let s = start (k-of e) in
+    read-refused (row s) _ (row-long-text (row s) (s .pre .0) (told e) (omega (arith, c .if2 .taken))) (lent s) (lent s) refl
+
 same-length-3 : tie.Need-same-length-3
 same-length-3 c = search needs
 
 returns-3 : tie.Need-returns-3
 returns-3 c =
-    let e = c .before in
-    let s = start (k-of e) in
-    read-refused (row s) _ (row-long-text (row s) (s .pre .0) (told e) (omega (arith, c .if2 .taken))) (lent s) (lent s) refl
-
-same-length-4 : tie.Need-same-length-4
-same-length-4 c = search needs
-
-returns-4 : tie.Need-returns-4
-returns-4 c =
     let e = c .before .before in
     let s = start (k-of e) in
     read-cramped (row s) (s .pre .0) (told e) (lent s) (lent s) refl (c .before .if2 .left) (c .if3 .taken)
@@ -144,7 +143,7 @@ returns-4 c =
 roomy : (c : tie.Else2) → count (k-of (c .before)) ≤ length (draft (start (k-of (c .before))))
 roomy c =
     let k = k-of (c .before) in
-    room-whole (gone k) (draft (start k)) (start k .pre .1) (c .if2 .left)
+    room-whole (gone k) (draft (start k)) (start k .pre .3) (c .if2 .left)
 
 fits : (c : tie.Else2) → let k = k-of (c .before) in length (take (count k) (back k)) ≡ count k
 fits c = let k = k-of (c .before) in length-take-le (count k) (back k) (omega (arith, roomy c, found k .1 .0))
@@ -157,6 +156,15 @@ slice-aggregate-copy c = sym (fits (c .before .before))
 
 copy-requires : tie.Need-copy-requires
 copy-requires c κs = omega (arith, fits (c .before .before .before), c .before .before .if3 .left)
+
+-- THE ENDS
+same-length-4 : tie.Need-same-length-4
+same-length-4 c = search needs
+
+returns-4 : tie.Need-returns-4
+returns-4 c =
+    let s = start-w (from-n (c .before)) in
+    read-refused (row s) _ (c .unread .ensures) (lent s) (lent s) refl
 
 same-length-5 : tie.Need-same-length-5
 same-length-5 c = search needs
@@ -179,23 +187,22 @@ pub read-by-spec : {M : Type 1} → statement M
 read-by-spec =
     tie.close
     (tie.spec
-    walk-requires
-    enum-known-walked
-    enum-told
+    walk-whole-requires
+    enum-known-cells
     unread-requires
+    enum-known-mode
+    ends-requires
     same-length-1
     returns
-    ends-requires
-    unread-requires-2
     same-length-2
     returns-2
     same-length-3
     returns-3
-    same-length-4
-    returns-4
     slice-reshare-prefix-copy
     slice-aggregate-copy
     copy-requires
+    same-length-4
+    returns-4
     same-length-5
     same-length-6
     returns-5)

@@ -20,7 +20,7 @@ returns-2 : tie.Need-returns-2
 returns-2 c =
     let f = c .before in
     let s = f .before .before in
-    row-no-text (s .args .row .now) (row-proper (s .args .row .now) (s .pre .0) (f .first-high .result) (f .first-high .ensures) (c .if1 .left)) (s .pre .1)
+    row-no-text (s .args .row .now) (row-proper (s .args .row .now) (s .pre .0) (f .first-high .result) (f .first-high .ensures) (c .if1 .left)) (s .pre .3)
 
 pub unread-spec : {M : Type 1} → statement M
 unread-spec = tie.close (tie.spec first-high-requires returns returns-2)

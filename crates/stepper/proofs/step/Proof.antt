@@ -6,6 +6,7 @@ use mathlib.Core.List.{List}
 use mathlib.Core.Logic.{⊎-elim}
 use Prim.Native.Nat.{ℕ, _+_, _*_, _≤_, zero-le}
 use native.Mathlib.Omega.{arith}
+use native.Mathlib.Nat.{not-suc-le-zero}
 use lib.Dec.{eqb}
 use lib.ListN.{length}
 use Rattle.rules.specs.Refusals.{longestRow}
@@ -14,6 +15,7 @@ use Rattle.readings.specs.Modes.{modeOf}
 use Rattle.readings.specs.Left.{left}
 use Rattle.reader.proofs.Whole.{left-none, Told}
 use Rattle.reader.proofs.Parts.{Went, went, lost, not-to-end}
+use Rattle.walks.specs.Walks.{CellsFrom}
 use Rattle.walks.proofs.Walking.{leads-nowhere}
 use Rattle.reader.proofs.Answering.{row-long, row-long-text}
 use Rattle.stepper.proofs.Seeing.{lost-behind, few-parts, told-parts, no-sign-seen, sign-seen, one-point, two-points}
@@ -149,6 +151,10 @@ gone₃ k =
     let j = k2-of u in
     went (row-k (k1-of k)) (length (row-k (k1-of k))) (next j) (mode₂ j) (opened₂ j) (u .walk3 .result) (at₃ k) (mode₃ k) (opened₃ k) (count₃ k) (u .walk3 .ensures) (k .before .mode-last .given .1) .0
 
+-- before the first place there is no byte
+none-before : (r : List ℕ) → CellsFrom r 0 0
+none-before r i h l = absurd (not-suc-le-zero l)
+
 reported-length-requires : tie.Need-reported-length-requires
 reported-length-requires c κs = search needs
 
@@ -160,9 +166,6 @@ returns c =
 stop-before-requires : tie.Need-stop-before-requires
 stop-before-requires c κs = search needs
 
-array-borrow-prefix-no-room : tie.Need-array-borrow-prefix-no-room
-array-borrow-prefix-no-room c = search needs
-
 slice-aggregate-walk : tie.Need-slice-aggregate-walk
 slice-aggregate-walk c = search needs
 
@@ -170,7 +173,7 @@ walk-requires : tie.Need-walk-requires
 walk-requires c κs =
     let b = c .before in
     let e = b .before in
-    (short e, zero-le, ⊎-elim (λ h. omega (arith, h .0, h .1)) (λ h. omega (arith, h .1)) (b .stop-before .ensures), omega arith, omega arith)
+    (short e, zero-le, ⊎-elim (λ h. omega (arith, h .0, h .1)) (λ h. omega (arith, h .1)) (b .stop-before .ensures), omega arith, omega arith, omega arith, omega arith)
 
 enum-known-at : tie.Need-enum-known-at
 enum-known-at c = search needs
@@ -182,7 +185,7 @@ unread-requires : tie.Need-unread-requires
 unread-requires c κs =
     let w = c .before .before .before in
     let r = row (start-w w) in
-    (short (from-w w), left-none r (lost r (w .before .before .stop-before .result) 0 0 0 (w .walk .result) (w .walk .ensures) (c .enum-told .given .1)))
+    (short (from-w w), zero-le, none-before r, left-none r (lost r (w .before .before .stop-before .result) 0 0 0 (w .walk .result) (w .walk .ensures) (c .enum-told .given .1) .none-left))
 
 returns-2 : tie.Need-returns-2
 returns-2 c = let s = start-w (c .before .before .before .before) in step-refused (row s) _ (c .unread .ensures) (s .args .place)
@@ -198,7 +201,7 @@ walk-requires-2 c κs =
     let b = c .before in
     let k = b .before in
     let g = gone₁ k .leads in
-    (short (from-w (w-of k)), g .within, ⊎-elim (λ h. omega (arith, h .1, h .2)) (λ h. omega (arith, h .1, g .within)) (b .stop-behind .ensures), g .mode, g .opens)
+    (short (from-w (w-of k)), g .within, ⊎-elim (λ h. omega (arith, h .1, h .2)) (λ h. omega (arith, h .1, g .within)) (b .stop-behind .ensures), g .mode, g .opens, zero-le, omega arith)
 
 enum-known-next : tie.Need-enum-known-next
 enum-known-next c = search needs
@@ -211,15 +214,14 @@ unread-requires-2 c κs =
     let v = c .before .before .before in
     let k = k-of v in (
       short (from-w (w-of k)),
+      zero-le,
+      none-before (row-k k),
       left-none (row-k k)
-          (leads-nowhere (gone₁ k .leads) (lost (row-k k) (behind v) (at k) (mode k) (opened k) (v .walk2 .result) (v .walk2 .ensures) (c .enum-told2 .given .1))),
+          (leads-nowhere (gone₁ k .leads) (lost (row-k k) (behind v) (at k) (mode k) (opened k) (v .walk2 .result) (v .walk2 .ensures) (c .enum-told2 .given .1) .none-left)),
     )
 
 returns-3 : tie.Need-returns-3
 returns-3 c = let s = start-w (w-of (k-of (c .before .before .before .before))) in step-refused (row s) _ (c .unread2 .ensures) (s .args .place)
-
-array-borrow-prefix-no-room-2 : tie.Need-array-borrow-prefix-no-room-2
-array-borrow-prefix-no-room-2 c = search needs
 
 slice-aggregate-walk-3 : tie.Need-slice-aggregate-walk-3
 slice-aggregate-walk-3 c = search needs
@@ -228,7 +230,7 @@ walk-requires-3 : tie.Need-walk-requires-3
 walk-requires-3 c κs =
     let k = c .before in
     let g = gone₂ k .leads in
-    (short (from-w (w-of (k-of (v-of k)))), g .within, omega arith, g .mode, g .opens)
+    (short (from-w (w-of (k-of (v-of k)))), g .within, omega arith, g .mode, g .opens, zero-le, omega arith)
 
 enum-known-mode-last : tie.Need-enum-known-mode-last
 enum-known-mode-last c = search needs
@@ -242,8 +244,10 @@ unread-requires-3 c κs =
     let j = k2-of u in
     let k = k-of (v-of j) in (
       short (from-w (w-of k)),
+      zero-le,
+      none-before (row-k k),
       left-none (row-k k)
-          (lost-behind (gone₁ k) (gone₂ j) (lost (row-k k) (length (row-k k)) (next j) (mode₂ j) (opened₂ j) (u .walk3 .result) (u .walk3 .ensures) (c .enum-told3 .given .1))),
+          (lost-behind (gone₁ k) (gone₂ j) (lost (row-k k) (length (row-k k)) (next j) (mode₂ j) (opened₂ j) (u .walk3 .result) (u .walk3 .ensures) (c .enum-told3 .given .1) .none-left)),
     )
 
 returns-4 : tie.Need-returns-4
@@ -260,6 +264,8 @@ unread-requires-4 c κs =
     let j = k2-of (u-of k) in
     let i = k1-of k in (
       short (from-w (w-of i)),
+      zero-le,
+      none-before (row-k i),
       left-none (row-k i)
           (lost-behind (gone₁ i) (gone₂ j) (not-to-end (gone₃ k) (sym (c .before .ends .ensures) ∙ not-true (c .before .ends .result) (c .if2 .taken)))),
     )
@@ -362,7 +368,6 @@ step-spec =
     reported-length-requires
     returns
     stop-before-requires
-    array-borrow-prefix-no-room
     slice-aggregate-walk
     walk-requires
     enum-known-at
@@ -376,7 +381,6 @@ step-spec =
     enum-told-2
     unread-requires-2
     returns-3
-    array-borrow-prefix-no-room-2
     slice-aggregate-walk-3
     walk-requires-3
     enum-known-mode-last
