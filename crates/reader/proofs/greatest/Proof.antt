@@ -37,10 +37,10 @@ loop-again c =
       λ m h j.
           ⊎-elim
           (λ k.
-              let e : m ≡ l .loop .place = omega (arith, j, k) in
-              let x : getD (l .before .args .row .now) m 0 ≡ getD (l .before .args .row .now) (l .loop .place) 0 =
-              ap (λ (n : ℕ). getD (l .before .args .row .now) n 0) e in
-              ⊎-elim (λ t. omega (arith, x, t .1)) (λ t. omega (arith, x, t .0 .left, t .1)) (c .if1 .came))
+          let e : m ≡ l .loop .place = omega (arith, j, k) in
+          let x : getD (l .before .args .row .now) m 0 ≡ getD (l .before .args .row .now) (l .loop .place) 0 =
+          ap (λ (n : ℕ). getD (l .before .args .row .now) n 0) e in
+          ⊎-elim (λ t. omega (arith, x, t .1)) (λ t. omega (arith, x, t .0 .left, t .1)) (c .if1 .came))
           (λ k. ⊎-elim (λ t. omega (arith, l .loop .inv .2 m h k, t .0 .taken, t .1)) (λ t. omega (arith, l .loop .inv .2 m h k, t .1)) (c .if1 .came))
           (le-or-lt (l .loop .place) m),
     )
