@@ -33,7 +33,7 @@ use Rattle.stepper.specs.declared.Shown.the-variants as steps
 use Rattle.stepper.specs.Promise.{Shows, sign-there, no-sign-there, row-refused}
 use Rattle.stepper.proofs.Claims as stepper
 use Rattle.stepper.proofs.Visiting.{coded-at, coded-text}
-use Rattle.desk.specs.Demands.{EveryPrintAnswered, EveryRowAnswered, EveryStepAnswered, PrintRefusalWritesNothing, RowRefusalWritesNothing, OneShown, OneRead, OneSign, RoundTrip, RefusedExactly, OneText, ReturnsTheText, NoTextExactly, WalkShowsText}
+use Rattle.desk.specs.Demands.{EveryPrintAnswered, EveryRowAnswered, EveryStepAnswered, PrintRefusalWritesNothing, RowRefusalWritesNothing, OneShown, OneRead, OneSign, RoundTrip, RefusedExactly, OneText, ReturnsTheText, RowIsRoom, NoTextExactly, WalkShowsText}
 use Rattle.desk.proofs.Unique as unique
 
 -- DEMAND 1
@@ -129,6 +129,9 @@ one-text = demands.one-text
 
 pub returns-the-text : ReturnsTheText castilian
 returns-the-text = reader.returns-the-text
+
+pub row-is-room : RowIsRoom castilian
+row-is-room = reader.row-is-room
 
 pub no-text-exactly : NoTextExactly castilian
 no-text-exactly = reader.no-text-exactly

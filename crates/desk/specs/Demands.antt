@@ -69,6 +69,10 @@ OneText = rules.OneText
 abbrev pub ReturnsTheText : Table → Type 0
 ReturnsTheText = reader.ReturnsTheText
 
+-- how much room fits: as many elements as the row has cells always do
+abbrev pub RowIsRoom : Table → Type 0
+RowIsRoom = reader.RowIsRoom
+
 -- "it says "no text" exactly when none of any length has the row"
 abbrev pub NoTextExactly : Table → Type 0
 NoTextExactly = reader.NoTextExactly

@@ -20,7 +20,7 @@ use Rattle.reader.specs.Promise.{Read, done, refused}
 use Rattle.reader.specs.Passes.{FirstHigh, RefusesRow}
 use Rattle.reader.specs.declared.Answer.{Answer}
 use Rattle.reader.specs.declared.Answer.the-variants.{Done, TooLong, NotACell, NoText, NeedsRoom}
-use Rattle.reader.proofs.Whole.{two-points-each, left-text, Told}
+use Rattle.reader.proofs.Whole.{left-text, no-longer, Told}
 
 -- THE ROW'S REFUSALS
 module _ (r : Row) where
@@ -51,7 +51,7 @@ module _ (r : Row) where
 
       pub row-long-text : longestText < c → RefusesRow castilian r (TooLong c)
       row-long-text h =
-          let e : reported c ≡ c = min-eq-left (omega (arith, two-points-each castilian sane text r has, told .count)) in (
+          let e : reported c ≡ c = min-eq-left (omega (arith, no-longer r text has, told .count)) in (
             tooLong c,
             refl,
             subst (λ (n : ℕ). RowRefused castilian r (tooLong n)) (ap reported (sym (told .count)) ∙ e)

@@ -11,7 +11,7 @@ use Rattle.rules.specs.Sorts.{Table}
 use Rattle.rules.specs.Rows.{Reads}
 use Rattle.rules.specs.Refusals.{Refusal, tooLong, atFault, needsRoom, notACell, noText}
 use Rattle.rules.specs.Answers as rules
-use Rattle.rules.specs.Answers.{gives, refuses, ProperRow, ReadsAs, RowAnswer}
+use Rattle.rules.specs.Answers.{gives, refuses, ProperRow, ReadsAs, RowRefused, long-row, not-a-cell, no-text, long-text, RowAnswer}
 use Rattle.rules.specs.Castilian.{castilian}
 use Rattle.rules.proofs.Finite.{nothing}
 use Rattle.rules.proofs.Profile.{Sane}
@@ -19,11 +19,12 @@ use Rattle.rules.proofs.Castilian.{sane}
 use Rattle.rules.proofs.Answers as answers
 use Rattle.rows.specs.Laid.{laid}
 use Rattle.rows.proofs.Laid.{length-laid, front}
+use Rattle.reader.proofs.Whole.{no-longer}
 use Rattle.reader.specs.declared.Answer.{Answer}
 use Rattle.reader.specs.declared.Answer.the-variants.{Done, TooLong, NotACell, NoText, NeedsRoom}
 use Rattle.reader.specs.Promise.{refusalOf, Read, done, refused}
 use Rattle.reader.specs.Passes.{FirstHigh}
-use Rattle.reader.specs.Claims.{OneOutcome, CountIsLength, RestAsItWas, RefusalWritesNothing, ReturnsTheText, NoTextExactly, OneFirstHigh}
+use Rattle.reader.specs.Claims.{OneOutcome, CountIsLength, RestAsItWas, RefusalWritesNothing, ReturnsTheText, NoTextExactly, RowIsRoom, OneFirstHigh}
 
 -- an answer is known by its refusal
 back : Refusal → Answer
@@ -55,6 +56,13 @@ refuses-same x y e = cc
 
 pub gives-not-refuses : {B : Type 0} {t : Text} {x : Refusal} → gives t ≡ refuses x → B
 gives-not-refuses e = let z : _≡_ {A = ℕ} 0 1 = cc in absurd (omega arith)
+
+-- a row's refusals are never for want of room
+pub never-room : {tb : Table} (r : Row) (x : Refusal) (n : ℕ) → RowRefused tb r x → x ≡ needsRoom n → ⊥
+never-room r x n (long-row l) e = let z : _≡_ {A = ℕ} 0 1 = cc in omega arith
+never-room r x n (not-a-cell m l k u f) e = let z : _≡_ {A = ℕ} 0 1 = cc in omega arith
+never-room r x n (no-text p h) e = let z : _≡_ {A = ℕ} 0 1 = cc in omega arith
+never-room r x n (long-text t p h l) e = let z : _≡_ {A = ℕ} 0 1 = cc in omega arith
 
 done-same : (m n : ℕ) → Done m ≡ Done n → m ≡ n
 done-same m n e = cc
@@ -147,6 +155,24 @@ returns-the-text = returns-the-text-in castilian sane
 
 pub no-text-exactly : NoTextExactly castilian
 no-text-exactly = no-text-exactly-in castilian sane
+
+-- what is needed is the length of a text that has the row
+pub row-is-room : RowIsRoom castilian
+row-is-room r lent n new p = go (NeedsRoom n) new p refl
+  where
+    same : (m k : ℕ) → needsRoom m ≡ needsRoom k → m ≡ k
+    same m k e = cc
+
+    by : (x : Refusal) (y : rules.Answer) → RowAnswer castilian r (length lent) y → y ≡ refuses x → x ≡ needsRoom n → (length lent < n) × (n ≤ length r)
+    by x y (rules.row-refused z h) e f = absurd (never-room r z n h (refuses-same z x e ∙ f))
+    by x y (rules.text-needs-room t h l) e f =
+        let k : length t ≡ n = same (length t) n (refuses-same (needsRoom (length t)) x e ∙ f) in
+        (omega (arith, l, k), omega (arith, no-longer r t (h .reads), k))
+    by x y (rules.read t h l) e f = gives-not-refuses e
+
+    go : (a : Answer) (new : List ℕ) → Read castilian r lent a new → a ≡ NeedsRoom n → (length lent < n) × (n ≤ length r)
+    go a new (done t g) e = let z : _≡_ {A = ℕ} 0 1 = cc in absurd (omega arith)
+    go a new (refused c x q h) e = by x (refuses x) h refl (some-same (sym q ∙ ap refusalOf e))
 
 -- of two such places neither comes before the other
 not-before : (r : Row) (m n : ℕ) → FirstHigh r m → FirstHigh r n → m < n → ⊥

@@ -22,7 +22,7 @@ use Rattle.walks.specs.Walks.{Wrote, addSigns, CellsFrom, Leads, Goes, goes-on,
 use Rattle.walks.specs.declared.Walked.{Walked}
 use Rattle.walks.specs.declared.Walked.the-variants.{On, Nowhere}
 use Rattle.walks.proofs.Walking.{adds-some, adds-none}
-use Rattle.reader.proofs.Whole.{Told}
+use Rattle.reader.proofs.Whole.{left-text, no-longer, Told}
 
 -- WHAT ONE WALK TELLS
 pub record Went (row : Row) (stop at m o k n u c : ℕ) : Type 0 where
@@ -82,10 +82,10 @@ abbrev pub told-whole : {row : Row} {k n u c : ℕ} (w : Went row (length row) 0
 told-whole w e = record { signs = w .signs; are = to-end w e; count = w .count }
 
 -- what it wrote, where there was room: for a code point a cell, or for a text of the longest
-pub room-whole : {row : Row} {k n u c : ℕ} → Went row (length row) 0 0 0 k n u c → (t : List ℕ) → (length row ≤ length t) ⊎ (longestText ≤ length t)
-    → c ≤ longestText → c ≤ length t
-room-whole w t room h =
-    ⊎-elim (λ l. omega (arith, w .count, w .leads .thrift, w .leads .within, l)) (λ l. omega (arith, h, l)) room
+pub room-whole : (row : Row) {c : ℕ} → Told (left 0 0 row) c → (t : List ℕ) → (length row ≤ length t) ⊎ (longestText ≤ length t) → c ≤ longestText → c ≤ length t
+room-whole row told t room h =
+    let text = left-text row (told .signs) (told .are) .0 in
+    ⊎-elim (λ l. omega (arith, told .count, no-longer row (printOf (told .signs)) text, l)) (λ l. omega (arith, h, l)) room
 
 pub written-whole : {row : Row} {k n u c : ℕ} (w : Went row (length row) 0 0 0 k n u c) (t t' : List ℕ) → Wrote t t' 0 (printOf (w .signs)) → c ≤ length t
     → take c t' ≡ printOf (w .signs)

@@ -1,29 +1,28 @@
 -- A whole row: the signs that the rules' own reader finds from its start are those of the text that has the row (`signs-of-text`), and where it finds
--- none no text has it. In order: of any table that is sane; a text's length, by its row's; of the Castilian table, where they are `left 0 0`; what a
--- walk then tells. Assumes nothing.
+-- none no text has it. In order: of any table that is sane; of the Castilian table, where they are `left 0 0`, and of which a text is no longer than its
+-- row; what a walk then tells. Assumes nothing.
 use mathlib.Core.Path.{_≡_, refl, sym, ap, _∙_, subst}
-use mathlib.Core.List.{List, [], _∷_}
-use mathlib.Core.Logic.{⊎-elim}
+use mathlib.Core.List.{List}
 use mathlib.Core.Option.{Option, none, some}
-use Prim.Native.Nat.{ℕ, _*_, _≤_}
+use Prim.Native.Nat.{ℕ, _≤_, zero-le}
 use native.Mathlib.Omega.{arith}
-use lib.ListN.{length, length-append}
+use lib.ListN.{length}
 use Rattle.rules.specs.Cells.{Text, Row}
 use Rattle.rules.specs.Sorts.{Table}
 use Rattle.rules.specs.Signs.{Sign, printOf}
 use Rattle.rules.specs.Pairs.{Opens}
 use Rattle.rules.specs.Rows.{Reads, signsOf}
-use Rattle.rules.specs.Demands.{OneOrTwoPoints}
 use Rattle.rules.specs.Castilian.{castilian}
 use Rattle.rules.proofs.Finite.{nothing}
 use Rattle.rules.proofs.States.{Free}
 use Rattle.rules.proofs.Pieces.{Piece}
 use Rattle.rules.proofs.Reader.{walk, all-pieces, reads}
 use Rattle.rules.proofs.Profile.{Sane, shut, print-of, printed, decode, pieces-of, OfText, of-text, reads-right}
-use Rattle.rules.proofs.Signs.{signs-join, cell-for-each-sign}
+use Rattle.rules.proofs.Signs.{signs-join}
 use Rattle.rules.proofs.Castilian.{sane}
 use Rattle.pairs.proofs.Pairing.{none-open}
 use Rattle.readings.specs.Left.{signsBy, left}
+use Rattle.readings.proofs.Turning.{left-thrift}
 
 module _ (tb : Table) (held : Sane tb) (r : Row) where
   abbrev pub piecesIn : Option (List Piece)
@@ -54,18 +53,6 @@ module _ (tb : Table) (held : Sane tb) (r : Row) where
   pub no-text-of-none : signsBy piecesIn ≡ none → (t : Text) → Reads tb r t → ⊥
   no-text-of-none e t h = nothing (sym e ∙ signs-of-text t h)
 
--- one or two code points a sign, and a cell or more
-two-each : (ss : List Sign) → OneOrTwoPoints ss → length (printOf ss) ≤ 2 * length ss
-two-each [] h = omega arith
-two-each (s ∷ ss) h =
-    let l : length (s .shown) ≤ 2 = ⊎-elim (λ e. omega (arith, e)) (λ e. omega (arith, e)) (h .0) in
-    omega (arith, length-append (s .shown) (printOf ss), two-each ss (h .1))
-
-pub two-points-each : (tb : Table) → Sane tb → (t : Text) (r : Row) → Reads tb r t → length t ≤ 2 * length r
-two-points-each tb held t r e =
-    let j = signs-join tb held t r e in
-    omega (arith, ap length (j .0), two-each (signsOf tb t) (j .2), cell-for-each-sign tb held t r e)
-
 -- of the Castilian table
 module _ (r : Row) where
   left-is : left 0 0 r ≡ signsBy (walk (all-pieces castilian) Free shut 0 r)
@@ -73,6 +60,11 @@ module _ (r : Row) where
 
   pub left-text : (ss : List Sign) → left 0 0 r ≡ some ss → Reads castilian r (printOf ss) × (signsOf castilian (printOf ss) ≡ ss)
   left-text ss e = text-of-signs castilian sane r ss (sym left-is ∙ e)
+
+  -- no text has more code points than its row has cells
+  pub no-longer : (t : Text) → Reads castilian r t → length t ≤ length r
+  no-longer t e =
+      omega (arith, left-thrift r (length r) 0 0 0 (omega arith) zero-le (omega arith) (omega arith) (signsOf castilian t) (left-is ∙ signs-of-text castilian sane r t e), ap length (signs-join castilian sane t r e .0))
 
   pub left-none : left 0 0 r ≡ none → (t : Text) → Reads castilian r t → ⊥
   left-none e = no-text-of-none castilian sane r (sym left-is ∙ e)

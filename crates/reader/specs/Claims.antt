@@ -4,7 +4,7 @@ use mathlib.Core.List.{List}
 use mathlib.Core.Logic.{_↔_}
 use mathlib.Core.Option.{some}
 use mathlib.Core.Path.{_≡_}
-use Prim.Native.Nat.{ℕ, _+_, _≤_}
+use Prim.Native.Nat.{ℕ, _+_, _≤_, _<_}
 use lib.ListN.{length, take, getD}
 use Rattle.rules.specs.Cells.{Text, Row}
 use Rattle.rules.specs.Sorts.{Table}
@@ -12,7 +12,7 @@ use Rattle.rules.specs.Rows.{Reads}
 use Rattle.rules.specs.Refusals.{Refusal}
 use Rattle.rules.specs.Answers.{ProperRow, ReadsAs}
 use Rattle.reader.specs.declared.Answer.{Answer}
-use Rattle.reader.specs.declared.Answer.the-variants.{Done, NoText}
+use Rattle.reader.specs.declared.Answer.the-variants.{Done, NoText, NeedsRoom}
 use Rattle.reader.specs.Promise.{refusalOf, Read}
 use Rattle.reader.specs.Passes.{FirstHigh}
 
@@ -51,6 +51,10 @@ abbrev pub NoTextExactly : Table → Type 0
 NoTextExactly tb =
     (r : Row) (lent : List ℕ) (a : Answer) (new : List ℕ) → Read tb r lent a new
     → (a ≡ NoText) ↔ (ProperRow r × ((t : Text) → Reads tb r t → ⊥))
+
+-- "with room enough": what is needed is more than was lent, and never more than one element for each cell of the row. (Of the Castilian table only: it hangs on the signs.)
+abbrev pub RowIsRoom : Table → Type 0
+RowIsRoom tb = (r : Row) (lent : List ℕ) (n : ℕ) (new : List ℕ) → Read tb r lent (NeedsRoom n) new → (length lent < n) × (n ≤ length r)
 
 -- of `first_high`, whatever the table: any two places that it may give are equal
 abbrev pub OneFirstHigh : Type 0

@@ -3,6 +3,7 @@
 use mathlib.Core.Path.{_≡_, refl, sym, _∙_, ap, subst}
 use mathlib.Core.Bool.{Bool, true, false, _&&_, _||_, not, cond, true≢false}
 use mathlib.Core.List.{List, [], _∷_, _++_, map}
+use mathlib.Core.Logic.{⊎-elim}
 use mathlib.Core.Option.{Option, none, some}
 use Prim.Native.Nat.{ℕ, zero, suc, _+_, _-_, _≤_, _<_}
 use native.Mathlib.Omega.{arith}
@@ -14,10 +15,10 @@ use lib.Seq.{getD-drop, drop-drop}
 use Rattle.rules.specs.Cells.{Row, Text, dots, lastCell}
 use Rattle.rules.specs.Castilian.{castilian}
 use Rattle.rules.specs.Sorts.{class, isDigitCell}
-use Rattle.rules.specs.Signs.{Sign}
+use Rattle.rules.specs.Signs.{Sign, printOf}
 use Rattle.rules.specs.Places.{classAt}
 use Rattle.rules.specs.Pairs.{kinds, Opens, markOf, markFits, markTurns, fits, turn}
-use Rattle.rules.proofs.Finite.{every, below, at-below, false-of}
+use Rattle.rules.proofs.Finite.{every, below, at-below, false-of, le-or-lt}
 use Rattle.rules.proofs.States.{Mode}
 use Rattle.rules.proofs.Enumerations.{modes, modeNumber, mode-back-number}
 use Rattle.rules.proofs.Machine.{at-rest, lead-of, step}
@@ -361,3 +362,41 @@ end-left row at m o l few =
     go : (b : Bool) → signsBy (cond b (some []) none) ≡ cond b (some []) none
     go true = refl
     go false = refl
+
+-- NO MORE CODE POINTS THAN CELLS: of the signs that are left from a place, but for the cell to spare there
+some-not-none : {x : Option (List Sign)} {ss : List Sign} → x ≡ some ss → x ≡ none → ⊥
+some-not-none e f = let z : _≡_ {A = ℕ} 0 1 = cc in omega arith
+
+same : {xs ys : List Sign} → some xs ≡ some ys → xs ≡ ys
+same e = cc
+
+module _ (row : Row) where
+  abbrev Thrifty : ℕ → ℕ → ℕ → Type 0
+  Thrifty at m o = (ss : List Sign) → left m o (drop at row) ≡ some ss → length (printOf ss) + at ≤ length row + spare m
+
+  at-end : (at m o : ℕ) → length row ≤ at → at ≤ length row → o < openStates → Thrifty at m o
+  at-end at m o all within few ss e = go (at-rest (modeOf m) && eqb o 0) (sym (end-left row at m o all few) ∙ e)
+    where
+      go : (b : Bool) → cond b (some []) none ≡ some ss → length (printOf ss) + at ≤ length row + spare m
+      go true f = let z : [] ≡ ss = same f in omega (arith, ap (λ (xs : List Sign). length (printOf xs)) (sym z), within)
+      go false f = absurd (some-not-none f refl)
+
+  on-turn : (at m o : ℕ) → at < length row → m < modeCount → o < openStates
+      → ((k n u : ℕ) → at < k → k ≤ length row → n < modeCount → u < openStates → Thrifty k n u) → Thrifty at m o
+  on-turn at m o inside small few on ss e = go (stepAt row at m o) refl
+    where
+      go : (g : Step) → stepAt row at m o ≡ g → length (printOf ss) + at ≤ length row + spare m
+      go variant.Nothing q = absurd (some-not-none e (none-left row at m o inside small few q))
+      go (variant.Sign l p k n u) q = more (turn-of row at m o inside small few l p k n u q) (left n u (drop k row)) refl
+        where
+          more : Turn row at m o l p k n u → (x : Option (List Sign)) → left n u (drop k row) ≡ x → length (printOf ss) + at ≤ length row + spare m
+          more here none f = absurd (some-not-none e (here .signs-left ∙ ap (addSign (here .sign)) f))
+          more here (some xs) f =
+              let z : here .sign ∷ xs ≡ ss = same (sym (here .signs-left ∙ ap (addSign (here .sign)) f) ∙ e) in
+              omega (arith, on k n u (here .forward) (here .within) (here .mode) (here .opens) xs f, here .thrift, ap (λ (ys : List Sign). length (printOf ys)) (sym z), length-append (here .sign .shown) (printOf xs), ap length (here .shows))
+
+  pub left-thrift : (n at m o : ℕ) → length row ≤ at + n → at ≤ length row → m < modeCount → o < openStates → Thrifty at m o
+  left-thrift zero at m o all within small few = at-end at m o (omega (arith, all)) within few
+  left-thrift (suc n) at m o all within small few =
+      ⊎-elim (λ h. at-end at m o h within few) (λ h. on-turn at m o h small few (λ k n' u a b c d. left-thrift n k n' u (omega (arith, all, a)) b c d))
+      (le-or-lt (length row) at)

@@ -9,7 +9,7 @@ use Rattle.rules.specs.Cells.{Row}
 use Rattle.rules.specs.Sorts.{Table}
 use Rattle.rules.specs.Refusals.{Refusal, needsRoom}
 use Rattle.rules.specs.Answers as rules
-use Rattle.rules.specs.Answers.{refuses, RowRefused, long-row, not-a-cell, no-text, long-text, RowAnswer}
+use Rattle.rules.specs.Answers.{refuses, RowRefused, RowAnswer}
 use Rattle.rules.specs.Screen as screen
 use Rattle.rules.specs.Screen.{StepAnswer, shows, stays, Stepped, stayed}
 use Rattle.rules.specs.Castilian.{castilian}
@@ -21,7 +21,7 @@ use Rattle.readings.specs.Print.{points}
 use Rattle.readings.proofs.Print.{points-width, points-inj}
 use Rattle.reader.specs.declared.Answer.the-variants.{NeedsRoom}
 use Rattle.reader.specs.Promise.{done, refused}
-use Rattle.reader.proofs.Claims.{some-same, known-two, refuses-same, gives-not-refuses}
+use Rattle.reader.proofs.Claims.{some-same, known-two, refuses-same, gives-not-refuses, never-room}
 use Rattle.stepper.specs.declared.Shown.the-variants.{Refused}
 use Rattle.stepper.specs.Promise.{sign-there, no-sign-there, row-refused}
 use Rattle.stepper.specs.Claims.{OneShown, RefusedAsRead, NeverSix, StillExactly, WalkShowsText}
@@ -37,18 +37,11 @@ no-points : {B : Type 0} (l p : ℕ) → points l p ≡ [] → B
 no-points l p e = absurd (omega (arith, ap length e, points-width l p .0))
 
 module _ (tb : Table) where
-  -- a row's refusals are never for want of room
-  not-six : (r : Row) (x : Refusal) (n : ℕ) → RowRefused tb r x → x ≡ needsRoom n → ⊥
-  not-six r x n (long-row l) e = let z : _≡_ {A = ℕ} 0 1 = cc in omega arith
-  not-six r x n (not-a-cell m l k u f) e = let z : _≡_ {A = ℕ} 0 1 = cc in omega arith
-  not-six r x n (no-text p h) e = let z : _≡_ {A = ℕ} 0 1 = cc in omega arith
-  not-six r x n (long-text t p h l) e = let z : _≡_ {A = ℕ} 0 1 = cc in omega arith
-
   refused-of : (r : Row) (place : ℕ) (x : Refusal) → Stepped tb r place (stays x) → RowRefused tb r x
   refused-of r place x (stayed y h) = h
 
   pub never-six-in : NeverSix tb
-  never-six-in r place n (row-refused a x q h) = not-six r x n (refused-of r place x h) (sym (some-same q))
+  never-six-in r place n (row-refused a x q h) = never-room r x n (refused-of r place x h) (sym (some-same q))
 
   pub refused-as-read-in : RefusedAsRead tb
   refused-as-read-in r lent a new (done t g) f other place = nothing (f .1)

@@ -17,7 +17,7 @@ use Rattle.rules.specs.Screen.{signAt}
 use Rattle.rules.specs.Refusals.{longestRow}
 use Rattle.rules.proofs.Finite.{le-or-lt}
 use Rattle.pairs.specs.Opened.{openStates}
-use Rattle.readings.specs.Modes.{modeCount, free, mixed, spare}
+use Rattle.readings.specs.Modes.{modeCount, free, mixed}
 use Rattle.readings.specs.Fields.{pointIn, thenIn}
 use Rattle.readings.specs.Words.{wordOf}
 use Rattle.readings.specs.Readings.{noPoint}
@@ -82,7 +82,6 @@ leads-none row stop at m o h f g =
       starts = tt;
       within = h;
       cells = λ i j k. absurd (omega (arith, j, k));
-      thrift = omega arith;
       mode = f;
       opens = g;
     }
@@ -95,7 +94,6 @@ leads-one {l = l} {p = p} h turn =
       starts = (h, omega (arith, turn .next-is, turn .forward), (l, p, turn .shows), tt);
       within = turn .within;
       cells = turn .cells;
-      thrift = omega (arith, turn .thrift, ap length (append-nil (turn .sign .shown)), ap length (turn .shows));
       mode = turn .mode;
       opens = turn .opens;
     }
@@ -115,7 +113,6 @@ module _ {row : Row} {stop from m₀ o₀ at m o : ℕ} {ss : List Sign} (leads 
         starts = starts-join stop from ss xs (leads .starts) (subst (λ (i : ℕ). Starts stop i xs) (leads .next-is) (more .starts));
         within = more .within;
         cells = cells-join-on (more .cells);
-        thrift = omega (arith, leads .thrift, more .thrift, ap length (print-join ss xs), length-append (printOf ss) (printOf xs));
         mode = more .mode;
         opens = more .opens;
       }
@@ -128,7 +125,6 @@ module _ {row : Row} {stop from m₀ o₀ at m o : ℕ} {ss : List Sign} (leads 
         starts = starts-wider stop stop' from ss h (leads .starts);
         within = leads .within;
         cells = leads .cells;
-        thrift = leads .thrift;
         mode = leads .mode;
         opens = leads .opens;
       }

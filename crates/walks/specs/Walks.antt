@@ -13,7 +13,7 @@ use Rattle.rules.specs.Signs.{Sign, printOf, cellsOf}
 use Rattle.rules.specs.Refusals.{longestRow}
 use Rattle.pairs.specs.Opened.{openStates}
 use Rattle.rows.specs.Laid.{laid}
-use Rattle.readings.specs.Modes.{modeCount, free, mixed, spare}
+use Rattle.readings.specs.Modes.{modeCount, free, mixed}
 use Rattle.readings.specs.Left.{left, addSign}
 use Rattle.readings.specs.Print.{points}
 use Rattle.signs.specs.Among.{aloneCell}
@@ -46,14 +46,13 @@ Starts stop at (s ∷ ss) = (at < stop) × (1 ≤ length (s .taken)) × CodedSig
 abbrev pub CellsFrom : Row → ℕ → ℕ → Type 0
 CellsFrom row at k = (i : ℕ) → at ≤ i → i < k → getD row i 0 ≤ lastCell
 
--- they lead from a place, a mode and the open pairs to others; all are of cells, and they have no more code points than cells, but for a cell to spare
+-- they lead from a place, a mode and the open pairs to others, and are of cells
 pub record Leads (row : Row) (stop at m o k n u : ℕ) (ss : List Sign) : Type 0 where
   pub left-is : left m o (drop at row) ≡ addSigns ss (left n u (drop k row))
   pub next-is : k ≡ at + length (cellsOf ss)
   pub starts : Starts stop at ss
   pub within : k ≤ length row
   pub cells : CellsFrom row at k
-  pub thrift : length (printOf ss) + spare n + at ≤ k + spare m
   pub mode : n < modeCount
   pub opens : u < openStates
 

@@ -143,7 +143,7 @@ returns-3 c =
 roomy : (c : tie.Else2) → count (k-of (c .before)) ≤ length (draft (start (k-of (c .before))))
 roomy c =
     let k = k-of (c .before) in
-    room-whole (gone k) (draft (start k)) (start k .pre .3) (c .if2 .left)
+    room-whole (row (start k)) (told (c .before)) (draft (start k)) (start k .pre .3) (c .if2 .left)
 
 fits : (c : tie.Else2) → let k = k-of (c .before) in length (take (count k) (back k)) ≡ count k
 fits c = let k = k-of (c .before) in length-take-le (count k) (back k) (omega (arith, roomy c, found k .1 .0))
