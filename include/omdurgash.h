@@ -88,7 +88,7 @@ struct desk_shown desk_transcribe(const uint32_t *print, size_t print_len, uint8
  * Reads one row: finds the only text that has it.
  *
  *   row, row_len       the row: so many cells
- *   text, text_len     the room for the text: so many code points
+ *   text, text_len     the room for the text: so many code points. As many as the row has cells are never too few.
  *
  * Where the answer's number is DESK_DONE, its second number is the count of code points, and they stand in the text from text[0] on. The elements
  * after them are as they were. Any other number is a refusal, and then every element of the text is as it was.

@@ -89,8 +89,8 @@ pub fn transcribe(print: &[u32], row: &mut [u8]) -> Result<usize, Refusal> {
 
 /// Reads one row: writes the only text that has it into `text`, from its first element on, and gives the count of code points.
 ///
-/// Any bytes may stand in `row`, and `text` may have any length: with [`LONGEST_TEXT`](crate::LONGEST_TEXT) the room always suffices. The
-/// elements after the count are as they were.
+/// Any bytes may stand in `row`, and `text` may have any length: with that of the row, or with [`LONGEST_TEXT`](crate::LONGEST_TEXT), the
+/// room always suffices. The elements after the count are as they were.
 ///
 /// ```
 /// use omdurgash::{read, Refusal};

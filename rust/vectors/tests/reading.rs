@@ -261,6 +261,70 @@ fn lengths_around_the_limits() {
     }
 }
 
+/// Signs of every width, apart from each other: cells, and their print.
+const APART: [(&[u8], &str); 9] = [
+    (&[0], " "),
+    (&[1, 0], "a "),
+    (&[40, 1, 0], "A "),
+    (&[34, 34], "¿?"),
+    (&[36, 36], "—"),
+    (&[56, 52, 52], "‰"),
+    (&[60, 19, 16, 3, 0], "8b "),
+    (&[60, 6, 1, 0], "2.ª "),
+    (&[60, 2, 6, 1, 11, 0], "12⁄16 "),
+];
+
+/// Blanks up to where so many cells are left, and then these signs, as often as they go in: a row of just so many cells, and its text.
+fn filled(cells: usize, (unit, print): (&[u8], &str)) -> (Vec<u8>, Vec<u32>) {
+    let blanks = cells % unit.len();
+    let print: Vec<u32> = print.chars().map(u32::from).collect();
+    ([vec![0; blanks], unit.repeat(cells / unit.len())].concat(), [vec![32; blanks], print.repeat(cells / unit.len())].concat())
+}
+
+/// What a row of cells is due, whose text this is, whatever its length.
+fn due(text: &[u32]) -> Due {
+    if text.len() > LONGEST_TEXT {
+        return Err((1, text.len()));
+    }
+    Ok(text.to_vec())
+}
+
+// A reader may have room for so many cells, or walk by so many: lengths on either side of any such, with every sort of sign there.
+#[test]
+fn lengths_between_the_limits() {
+    let (mut rows, mut wrong) = (0, Vec::new());
+    let mut try_row = |name: &str, row: &[u8], due: &Due| {
+        wrong.extend(hold(name, row, due));
+        rows += 1;
+    };
+    for unit in APART {
+        let text_full = LONGEST_TEXT * unit.0.len() / unit.1.chars().count();
+        for about in [16, 32, 64, 128, 256, 512, 1024, LONGEST_TEXT, LONGEST_TEXT + 1024, 2 * LONGEST_TEXT, text_full, LONGEST_ROW] {
+            for cells in (about - 2..=about + 2).filter(|&cells| cells <= LONGEST_ROW) {
+                let (mut row, text) = filled(cells, unit);
+                try_row(unit.1, &row, &due(&text));
+                row[cells - 1] = 63;
+                try_row("a last cell that starts no sign", &row, &Err((8, 0)));
+                row[cells - 1] = 64;
+                try_row("a last byte that is no cell", &row, &Err((7, cells - 1)));
+                row[cells / 2] = 64;
+                try_row("a byte in the middle that is no cell", &row, &Err((7, cells / 2)));
+            }
+        }
+        // The text is full of letters, and then the signs come, with letters between them.
+        for letters in [LONGEST_TEXT - 1, LONGEST_TEXT, LONGEST_TEXT + 1] {
+            let (cells, print) = ([&[0][..], unit.0, &[1; 50], &[0]].concat(), format!(" {}{} ", unit.1, "a".repeat(50)));
+            let (row, text) = filled(LONGEST_ROW - letters - 1, (&cells, &print));
+            let (mut row, text) = ([vec![1; letters], row, vec![0]].concat(), [vec![97; letters], text, vec![32]].concat());
+            try_row("signs behind a full text", &row, &due(&text));
+            row[LONGEST_ROW - 1] = 34;
+            try_row("a pair open behind a full text", &row, &Err((8, 0)));
+        }
+    }
+    assert!(wrong.is_empty(), "\n{}\n", wrong.join("\n"));
+    say(&format!("{rows} rows of lengths between the limits, 0 failed"));
+}
+
 // A step for each sign, of a row as long as they come.
 #[test]
 fn steps_through_a_long_row() {
