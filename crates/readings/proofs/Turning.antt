@@ -1,5 +1,5 @@
 -- The step at a place of a row is what the rules' reader finds there, and so one turn of a walk over the row. In order: the cells in view; what the code
--- reads does not hang on cells that it does not ask for; the step is the sign found (`found`); one turn, and its ends. Assumes nothing.
+-- reads does not hang on cells that it does not ask for; the step is the sign found (`found`); one turn, and its ends; no more code points than cells. Assumes nothing.
 use mathlib.Core.Path.{_≡_, refl, sym, _∙_, ap, subst}
 use mathlib.Core.Bool.{Bool, true, false, _&&_, _||_, not, cond, true≢false}
 use mathlib.Core.List.{List, [], _∷_, _++_, map}

@@ -117,6 +117,16 @@ module _ {row : Row} {stop from m₀ o₀ at m o : ℕ} {ss : List Sign} (leads 
         opens = more .opens;
       }
 
+  -- a turn more, and how many code points there are then
+  leads-turn : {l p k n u : ℕ} (turn : Turn row at m o l p k n u) → at < stop
+      → (xs : List Sign) × Leads row stop from m₀ o₀ k n u xs × (length (printOf xs) ≡ length (printOf ss) + length (points l p))
+  leads-turn turn h =
+      let s = turn .sign ∷ [] in (
+        ss ++ s,
+        leads-join (leads-one h turn),
+        omega (arith, ap length (print-join ss s), length-append (printOf ss) (printOf s), ap length (append-nil (turn .sign .shown)), ap length (turn .shows)),
+      )
+
   pub leads-wider : {stop' : ℕ} → stop ≤ stop' → Leads row stop' from m₀ o₀ at m o ss
   leads-wider {stop'} h =
       record {
@@ -248,12 +258,10 @@ module _ (row : Row) (all : AllCells row) (at o : ℕ) (few : o < openStates) wh
       let cell = all (at + j) inside in
       let step = alone-step row (at + j) (mode-on m j) o inside cell is (before .3) in
       let turn = turn-of row (at + j) (mode-on m j) o inside (before .1 .mode) few noPoint (pointIn (wordOf (getD row (at + j) 0))) (at + j + 1) (thenIn (wordOf (getD row (at + j) 0))) o step in
-      let on = leads-join (before .1) (leads-one inside turn) in
-      let p : length (printOf (before .0 ++ turn .sign ∷ [])) ≡ suc j =
-      omega (arith, ap length (print-join (before .0) (turn .sign ∷ [])), length-append (printOf (before .0)) (printOf (turn .sign ∷ [])), before .2, ap length (append-nil (turn .sign .shown)), ap length (turn .shows)) in (
-        before .0 ++ turn .sign ∷ [],
-        subst (λ (k : ℕ). Leads row (length row) at m o k (thenIn (wordOf (getD row (at + j) 0))) o (before .0 ++ turn .sign ∷ [])) (omega arith) on,
-        p,
+      let on = leads-turn (before .1) turn inside in (
+        on .0,
+        subst (λ (k : ℕ). Leads row (length row) at m o k (thenIn (wordOf (getD row (at + j) 0))) o (on .0)) (omega arith) (on .1),
+        omega (arith, on .2, before .2),
         alone-modes (getD row (at + j) 0) cell is,
       )
 
