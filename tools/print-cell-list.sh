@@ -32,8 +32,8 @@ modes=$(printf '%s\n' "$places" | awk -F '\t' "$camel"'$3 == "AS_USUAL" && !told
 
 cat <<TEXT
 -- Printed by tools/print-cell-list.sh from crates/rules/specs/Castilian.antt and tools/readings.txt: change those, and print it again.
--- The word of each cell by its fields, and the signs of two cells whose first is none by itself. That they are what the rules say is shown by computed tests
--- (proofs/Tested.antt). Assumes nothing.
+-- The word of each cell by its fields, the cells that are letters or signs alone, and the signs of two cells whose first is none by itself. That they are what the
+-- rules say is shown by computed tests (proofs/Tested.antt; of letters and signs alone, in the crate \`signs\`). Assumes nothing.
 use Prim.Native.Nat.{ℕ, _+_, _*_, _^_}
 use mathlib.Core.List.{List, [], _∷_}
 use lib.ListN.{getD}
@@ -89,6 +89,20 @@ $1 == "two" { next }
     print "    " (n++ ? "∷ " : "") (word ~ / / ? "(" word ")" : word)
 }
 END { print "    ∷ []" }'
+
+alone() { # NAME LETTERS
+    { printf '%s\n' "$places" | awk '{ print "place\t" $0 }'; printf '%s\n' "$cells"; } | awk -v letters="$2" -f tools/alone-cells.awk | awk -F '\t' -v name="$1" '
+    BEGIN { print "abbrev pub " name " : ℕ"; print name " =" }
+    { print "    -- " $2 ": " $9; print "    " (NR == 1 ? "" : "+ ") "2 ^ " $1 }'
+}
+
+cat <<'TEXT'
+
+-- THE CELLS that are small letters, and those that are signs, wherever nothing is begun and in a run with a small letter: a bit for each
+TEXT
+alone lettersAlone 1
+echo
+alone signsAlone 0
 
 cat <<'TEXT'
 

@@ -102,6 +102,20 @@ cat <<'TEXT'
 }
 TEXT
 
+alone() { # NAME LETTERS
+    { printf '%s\n' "$places" | awk '{ print "place\t" $0 }'; printf '%s\n' "$cells"; } | awk -v letters="$2" -f tools/alone-cells.awk | awk -F '\t' -v name="$1" '
+    { sum = sum (NR == 1 ? "" : "\n    + ") "(1 << D" $2 ")" }
+    END { print "pub const " name ": u64 = " sum ";" }'
+}
+
+cat <<'TEXT'
+
+// The cells that are small letters, and those that are signs, wherever nothing is begun and in a run with a small letter: a bit for each.
+TEXT
+alone LETTERS_ALONE 1
+echo
+alone SIGNS_ALONE 0
+
 # A look-up of one field, for the cells that follow: NAME, its column of the cells' lines, what it is, the field, and a column that must have something too. Where `every` stands last, the cells that
 # do not have the field are named as well.
 field() {

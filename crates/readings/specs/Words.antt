@@ -1,6 +1,6 @@
 -- Printed by tools/print-cell-list.sh from crates/rules/specs/Castilian.antt and tools/readings.txt: change those, and print it again.
--- The word of each cell by its fields, and the signs of two cells whose first is none by itself. That they are what the rules say is shown by computed tests
--- (proofs/Tested.antt). Assumes nothing.
+-- The word of each cell by its fields, the cells that are letters or signs alone, and the signs of two cells whose first is none by itself. That they are what the
+-- rules say is shown by computed tests (proofs/Tested.antt; of letters and signs alone, in the crate `signs`). Assumes nothing.
 use Prim.Native.Nat.{ℕ, _+_, _*_, _^_}
 use mathlib.Core.List.{List, [], _∷_}
 use lib.ListN.{getD}
@@ -187,6 +187,95 @@ words =
     -- 123456
     ∷ nothing
     ∷ []
+
+-- THE CELLS that are small letters, and those that are signs, wherever nothing is begun and in a run with a small letter: a bit for each
+abbrev pub lettersAlone : ℕ
+lettersAlone =
+    -- 1: 1 A a ª
+    2 ^ 1
+    -- 12: 2 B b
+    + 2 ^ 3
+    -- 13: K k
+    + 2 ^ 5
+    -- 123: L l
+    + 2 ^ 7
+    -- 14: 3 C c
+    + 2 ^ 9
+    -- 24: 9 I i
+    + 2 ^ 10
+    -- 124: 6 F f
+    + 2 ^ 11
+    -- 34: Í í
+    + 2 ^ 12
+    -- 134: M m
+    + 2 ^ 13
+    -- 234: S s
+    + 2 ^ 14
+    -- 1234: P p
+    + 2 ^ 15
+    -- 15: 5 E e
+    + 2 ^ 17
+    -- 125: 8 H h
+    + 2 ^ 19
+    -- 135: O o º
+    + 2 ^ 21
+    -- 1235: R r
+    + 2 ^ 23
+    -- 145: 4 D d
+    + 2 ^ 25
+    -- 245: 0 J j
+    + 2 ^ 26
+    -- 1245: 7 G g
+    + 2 ^ 27
+    -- 1345: N n
+    + 2 ^ 29
+    -- 2345: T t
+    + 2 ^ 30
+    -- 12345: Q q
+    + 2 ^ 31
+    -- 136: U u
+    + 2 ^ 37
+    -- 1236: V v
+    + 2 ^ 39
+    -- 346: Ó ó
+    + 2 ^ 44
+    -- 1346: X x
+    + 2 ^ 45
+    -- 2346: É é
+    + 2 ^ 46
+    -- 1256: Ü ü
+    + 2 ^ 51
+    -- 1356: Z z
+    + 2 ^ 53
+    -- 12356: Á á
+    + 2 ^ 55
+    -- 2456: W w
+    + 2 ^ 58
+    -- 12456: Ñ ñ
+    + 2 ^ 59
+    -- 13456: Y y
+    + 2 ^ 61
+    -- 23456: Ú ú
+    + 2 ^ 62
+
+abbrev pub signsAlone : ℕ
+signsAlone =
+    -- 0: space
+    2 ^ 0
+    -- 2: , 1
+    + 2 ^ 2
+    -- 3: .
+    + 2 ^ 4
+    -- 23: 2 ;
+    + 2 ^ 6
+    -- 25: 3 :
+    + 2 ^ 18
+    -- 345: )
+    + 2 ^ 28
+    -- 126: (
+    + 2 ^ 35
+    -- 2356: 7 =
+    + 2 ^ 54
 
 -- the word of a byte; one that is no cell begins no sign
 abbrev pub wordOf : ℕ → ℕ

@@ -499,6 +499,50 @@ pub fn word_of(cell: u8) -> u64
     }
 }
 
+// The cells that are small letters, and those that are signs, wherever nothing is begun and in a run with a small letter: a bit for each.
+pub const LETTERS_ALONE: u64 = (1 << D1)
+    + (1 << D12)
+    + (1 << D13)
+    + (1 << D123)
+    + (1 << D14)
+    + (1 << D24)
+    + (1 << D124)
+    + (1 << D34)
+    + (1 << D134)
+    + (1 << D234)
+    + (1 << D1234)
+    + (1 << D15)
+    + (1 << D125)
+    + (1 << D135)
+    + (1 << D1235)
+    + (1 << D145)
+    + (1 << D245)
+    + (1 << D1245)
+    + (1 << D1345)
+    + (1 << D2345)
+    + (1 << D12345)
+    + (1 << D136)
+    + (1 << D1236)
+    + (1 << D346)
+    + (1 << D1346)
+    + (1 << D2346)
+    + (1 << D1256)
+    + (1 << D1356)
+    + (1 << D12356)
+    + (1 << D2456)
+    + (1 << D12456)
+    + (1 << D13456)
+    + (1 << D23456);
+
+pub const SIGNS_ALONE: u64 = (1 << D0)
+    + (1 << D2)
+    + (1 << D3)
+    + (1 << D23)
+    + (1 << D25)
+    + (1 << D345)
+    + (1 << D126)
+    + (1 << D2356);
+
 // The capital of a letter, or NO_POINT.
 pub fn capital_of(cell: u8) -> u32
     ensures { λ r. ⌜ r ≡ capitalIn (wordOf cell) ⌝ }

@@ -23,10 +23,10 @@ use Rattle.readings.specs.Modes.{modeOf, modeCount}
 use Rattle.readings.specs.Acts as act
 use Rattle.readings.specs.Deeds.{deeds}
 use Rattle.readings.specs.Fields.{deedOf, classIn, pointIn, capitalIn, figureIn, lowerIn, letterIn, kindIn, thenIn, usualIn, runPoint, noCell, cellOf}
-use Rattle.readings.specs.Words.{words, wordOf, twoOf}
+use Rattle.readings.specs.Words.{words, lettersAlone, signsAlone, wordOf, twoOf}
 use Rattle.readings.specs.Readings.{noPoint, Reading, reads, aMark, one, usualBy, onceList, digitCell, capitalModes, capitalLetter, capitalBy, numberBy, percentBy, innerQuotes, longerBy, prefixBy, askList, askedBy, readingOf, byWord, openerOf, closerOf, markStep, stepOf, stepAt}
 use Rattle.readings.specs.Readings as reading
-use Rattle.signs.specs.Among.{digitCells, lowerCells, letterCells, signCells, cellAmong, lowerCell, aloneCell}
+use Rattle.signs.specs.Among.{digitCells, lowerCells, cellAmong, lowerCell, aloneCell}
 use Rattle.signs.specs.Runs.{noRun, runOf, homeOf, Quick, InRun}
 use Rattle.readings.specs.declared.Step.{Step}
 use Rattle.readings.specs.declared.Step.the-variants as variant
@@ -370,38 +370,38 @@ abbrev pub bit-of : ℕ → ℕ → ℕ
 bit-of these c = these / 2 ^ (c % 64) % 2
 
 abbrev alone-test : ℕ → Bool
-alone-test c = Bool·beq (eqb (bit-of (letterCells + signCells) c) 1) (aloneCell c)
+alone-test c = Bool·beq (eqb (bit-of (lettersAlone + signsAlone) c) 1) (aloneCell c)
 
 alone-right : T (below alone-test noCell)
 unfolding words
 alone-right = tt
 
 abbrev behind-test : ℕ → Bool
-behind-test c = not (aloneCell c) || eqb (thenIn (wordOf c)) (cond (eqb (bit-of letterCells c) 1) mode.mixed mode.free)
+behind-test c = not (aloneCell c) || eqb (thenIn (wordOf c)) (cond (eqb (bit-of lettersAlone c) 1) mode.mixed mode.free)
 
 behind-right : T (below behind-test noCell)
 unfolding words
 behind-right = tt
 
 module _ (c : ℕ) (low : c ≤ lastCell) where
-  pub alone-told : eqb (bit-of (letterCells + signCells) c) 1 ≡ aloneCell c
-  alone-told = beq-same (eqb (bit-of (letterCells + signCells) c) 1) (aloneCell c) (at-below alone-test noCell alone-right c (omega (arith, low)))
+  pub alone-told : eqb (bit-of (lettersAlone + signsAlone) c) 1 ≡ aloneCell c
+  alone-told = beq-same (eqb (bit-of (lettersAlone + signsAlone) c) 1) (aloneCell c) (at-below alone-test noCell alone-right c (omega (arith, low)))
 
   module _ (alone : aloneCell c ≡ true) where
-    behind : thenIn (wordOf c) ≡ cond (eqb (bit-of letterCells c) 1) mode.mixed mode.free
+    behind : thenIn (wordOf c) ≡ cond (eqb (bit-of lettersAlone c) 1) mode.mixed mode.free
     behind =
-        eqb→eq (thenIn (wordOf c)) (cond (eqb (bit-of letterCells c) 1) mode.mixed mode.free)
-        (implies (aloneCell c) (eqb (thenIn (wordOf c)) (cond (eqb (bit-of letterCells c) 1) mode.mixed mode.free)) (subst T (sym alone) tt)
+        eqb→eq (thenIn (wordOf c)) (cond (eqb (bit-of lettersAlone c) 1) mode.mixed mode.free)
+        (implies (aloneCell c) (eqb (thenIn (wordOf c)) (cond (eqb (bit-of lettersAlone c) 1) mode.mixed mode.free)) (subst T (sym alone) tt)
         (at-below behind-test noCell behind-right c (omega (arith, low))))
 
-    pub behind-letter : bit-of letterCells c ≡ 1 → mode.mixed ≡ thenIn (wordOf c)
-    behind-letter e = sym (behind ∙ ap (λ (b : Bool). cond b mode.mixed mode.free) (eq-eqb (bit-of letterCells c) 1 e))
+    pub behind-letter : bit-of lettersAlone c ≡ 1 → mode.mixed ≡ thenIn (wordOf c)
+    behind-letter e = sym (behind ∙ ap (λ (b : Bool). cond b mode.mixed mode.free) (eq-eqb (bit-of lettersAlone c) 1 e))
 
-    pub behind-sign : (bit-of letterCells c ≡ 1 → ⊥) → mode.free ≡ thenIn (wordOf c)
-    behind-sign n = sym (behind ∙ ap (λ (b : Bool). cond b mode.mixed mode.free) (ne-eqb (bit-of letterCells c) 1 n))
+    pub behind-sign : (bit-of lettersAlone c ≡ 1 → ⊥) → mode.free ≡ thenIn (wordOf c)
+    behind-sign n = sym (behind ∙ ap (λ (b : Bool). cond b mode.mixed mode.free) (ne-eqb (bit-of lettersAlone c) 1 n))
 
     pub alone-modes : (thenIn (wordOf c) ≡ mode.free) ⊎ (thenIn (wordOf c) ≡ mode.mixed)
-    alone-modes = go (eqb (bit-of letterCells c) 1) behind
+    alone-modes = go (eqb (bit-of lettersAlone c) 1) behind
       where
         go : (b : Bool) → thenIn (wordOf c) ≡ cond b mode.mixed mode.free → (thenIn (wordOf c) ≡ mode.free) ⊎ (thenIn (wordOf c) ≡ mode.mixed)
         go true e = inr e

@@ -1,5 +1,5 @@
--- The cells of the digits and of the lower digits, of the small letters and of the signs that are alone, as the code asks for them: a bit for each. The code's
--- constants are these (src/lib.rt). Assumes nothing.
+-- The cells of the digits and of the lower digits, as the code asks for them: a bit for each. The code's constants are these (src/lib.rt). And the cells that are read
+-- alone; their bits stand with the words (`Words.lettersAlone`, `signsAlone` of the crate `readings`). Assumes nothing.
 use mathlib.Core.Bool.{Bool, not, _&&_}
 use Prim.Native.Nat.{ℕ, _/_, _%_, _^_}
 use lib.Dec.{eqb, leb}
@@ -14,12 +14,6 @@ digitCells = 235539978
 
 abbrev pub lowerCells : ℕ
 lowerCells = 23644190106976324
-
-abbrev pub letterCells : ℕ
-letterCells = 7829631788684869290
-
-abbrev pub signCells : ℕ
-signCells = 18014433137918037
 
 -- is the cell one of these
 abbrev pub cellAmong : ℕ → ℕ → Bool

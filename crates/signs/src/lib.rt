@@ -41,57 +41,33 @@ use readings::WHOLE1;
 use readings::WHOLE2;
 use readings::capital_in;
 use readings::cells;
-use readings::cells::D0;
 use readings::cells::D1;
 use readings::cells::D2;
 use readings::cells::D3;
 use readings::cells::D6;
 use readings::cells::D12;
-use readings::cells::D13;
 use readings::cells::D14;
 use readings::cells::D15;
 use readings::cells::D23;
 use readings::cells::D24;
 use readings::cells::D25;
 use readings::cells::D26;
-use readings::cells::D34;
 use readings::cells::D35;
 use readings::cells::D36;
 use readings::cells::D46;
-use readings::cells::D123;
 use readings::cells::D124;
 use readings::cells::D125;
-use readings::cells::D126;
-use readings::cells::D134;
-use readings::cells::D135;
-use readings::cells::D136;
 use readings::cells::D145;
-use readings::cells::D234;
 use readings::cells::D235;
 use readings::cells::D236;
 use readings::cells::D245;
 use readings::cells::D256;
-use readings::cells::D345;
-use readings::cells::D346;
 use readings::cells::D356;
 use readings::cells::D456;
-use readings::cells::D1234;
-use readings::cells::D1235;
-use readings::cells::D1236;
 use readings::cells::D1245;
-use readings::cells::D1256;
-use readings::cells::D1345;
-use readings::cells::D1346;
-use readings::cells::D1356;
-use readings::cells::D2345;
-use readings::cells::D2346;
 use readings::cells::D2356;
-use readings::cells::D2456;
-use readings::cells::D12345;
-use readings::cells::D12356;
-use readings::cells::D12456;
-use readings::cells::D13456;
-use readings::cells::D23456;
+use readings::cells::LETTERS_ALONE;
+use readings::cells::SIGNS_ALONE;
 use readings::class_in;
 use readings::closer_of;
 use readings::deed_of;
@@ -151,50 +127,6 @@ const LOWER_CELLS: u64 = (1 << D2)
     + (1 << D236)
     + (1 << D35)
     + (1 << D356);
-
-// The cells of the small letters, and those of the signs of one cell that are no pair marks and have no reading besides in a word: a bit for each.
-const LETTER_CELLS: u64 = (1 << D1)
-    + (1 << D12)
-    + (1 << D13)
-    + (1 << D123)
-    + (1 << D14)
-    + (1 << D24)
-    + (1 << D124)
-    + (1 << D34)
-    + (1 << D134)
-    + (1 << D234)
-    + (1 << D1234)
-    + (1 << D15)
-    + (1 << D125)
-    + (1 << D135)
-    + (1 << D1235)
-    + (1 << D145)
-    + (1 << D245)
-    + (1 << D1245)
-    + (1 << D1345)
-    + (1 << D2345)
-    + (1 << D12345)
-    + (1 << D136)
-    + (1 << D1236)
-    + (1 << D346)
-    + (1 << D1346)
-    + (1 << D2346)
-    + (1 << D1256)
-    + (1 << D1356)
-    + (1 << D12356)
-    + (1 << D2456)
-    + (1 << D12456)
-    + (1 << D13456)
-    + (1 << D23456);
-
-const SIGN_CELLS: u64 = (1 << D0)
-    + (1 << D2)
-    + (1 << D3)
-    + (1 << D23)
-    + (1 << D25)
-    + (1 << D345)
-    + (1 << D126)
-    + (1 << D2356);
 
 // No cell: past the row's end, or where the byte is none.
 const NO_CELL: u8 = 64;
@@ -309,7 +241,7 @@ pub fn is_alone(cell: u8) -> bool
     requires { ⌜ cell ≤ lastCell ⌝ }
     ensures { λ r. ⌜ r ≡ aloneCell cell ⌝ }
 {
-    ((LETTER_CELLS + SIGN_CELLS) >> (cell as usize % WORD_BITS)) % 2 == 1
+    ((LETTERS_ALONE + SIGNS_ALONE) >> (cell as usize % WORD_BITS)) % 2 == 1
 }
 
 // The mode behind such a cell.
@@ -317,7 +249,7 @@ pub fn mode_behind(cell: u8) -> usize
     requires { ⌜ (cell ≤ lastCell) × (aloneCell cell ≡ true) ⌝ }
     ensures { λ r. ⌜ r ≡ thenIn (wordOf cell) ⌝ }
 {
-    if (LETTER_CELLS >> (cell as usize % WORD_BITS)) % 2 == 1 {
+    if (LETTERS_ALONE >> (cell as usize % WORD_BITS)) % 2 == 1 {
         return MIXED;
     }
     FREE
