@@ -112,6 +112,7 @@ impl<I, O: Copy + PartialEq + Debug> Duel<I, O> {
         }
         self.print_head();
         self.cases.iter().zip(&times).for_each(|(case, times)| self.print_line(case, times));
+        self.print_worst(&times);
         let ratio = |(case, times): (&Case<I, O>, &Times)| Ratio {
             name: format!("{}-{}", self.words.name, case.name),
             ratio: times.ratio(LIBRARY, LIKE),
@@ -161,6 +162,15 @@ impl<I, O: Copy + PartialEq + Debug> Duel<I, O> {
         print!("{:<36}{length:>12.1}{:>13}{library:>11.1}{:>10.2}", case.title, self.answer(case), each(library));
         print!("{:>16.2}{:>8.2}{:>9.2}", each(like), times.ratio(LIBRARY, LIKE), times.best(LIBRARY) / times.best(LIKE));
         println!("{:>16.2}{:>8.2}", each(other), times.ratio(LIBRARY, OTHER));
+    }
+
+    /// The worst beside each of the plain functions.
+    fn print_worst(&self, times: &[Times]) {
+        for rival in [LIKE, OTHER] {
+            let ratios = self.cases.iter().zip(times).map(|(case, times)| (times.ratio(LIBRARY, rival), case.title));
+            let (worst, title) = ratios.max_by(|one, another| one.0.total_cmp(&another.0)).expect("something was timed");
+            println!("At most {worst:.2} times as long as {} ({title}).", self.rivals[rival].0);
+        }
     }
 
     /// What is written, on the average; or the refusal.
