@@ -415,9 +415,9 @@ three true false d e = absurd (true≢false (sym e))
 three false b d e = absurd (true≢false (sym e))
 
 -- such a cell is its code point, where nothing is begun and in a run with a small letter
-pub alone-step : (row : Row) (at m o : ℕ) → at < length row → getD row at 0 ≤ lastCell → aloneCell (getD row at 0) ≡ true → (m ≡ mode.free) ⊎ (m ≡ mode.mixed)
+pub alone-step : (row : Row) (at m o : ℕ) → at < length row → aloneCell (getD row at 0) ≡ true → (m ≡ mode.free) ⊎ (m ≡ mode.mixed)
     → stepAt row at m o ≡ variant.Sign noPoint (pointIn (wordOf (getD row at 0))) (at + 1) (thenIn (wordOf (getD row at 0))) o
-alone-step row at m o inside low alone here =
+alone-step row at m o inside alone here =
     sym
     (usual-sign w at o (pointIn w) (thenIn w) refl refl (has-some (pointIn w) (parts .2))
     ∙ as-usual row at m o w (word-there row at inside) (⊎-elim (λ e. ap (usualIn w) e ∙ parts .0) (λ e. ap (usualIn w) e ∙ parts .1) here))

@@ -11,7 +11,7 @@ use native.Mathlib.Nat.{add-zero}
 use lib.Dec.{eqb, leb}
 use lib.ListN.{length, drop, getD, length-append}
 use borrow.Author.Tests.{eq-eqb, ne-eqb, le-leb, lt-leb}
-use Rattle.rules.specs.Cells.{Row, lastCell}
+use Rattle.rules.specs.Cells.{Row}
 use Rattle.rules.specs.Signs.{Sign, printOf, cellsOf}
 use Rattle.rules.specs.Screen.{signAt}
 use Rattle.rules.specs.Refusals.{longestRow}
@@ -191,9 +191,9 @@ module _ {row : Row} {stop from m₀ o₀ n₀ m o n at : ℕ} {t₀ t : List �
   -- a walk over a part that lies within
   pub mid-part : {stop' : ℕ} {t' : List ℕ} (w : Walked) → stop' ≤ stop → Goes row stop' at m o n t t' w → {k n' u c : ℕ} → w ≡ On k n' u c
       → Mid row stop from m₀ o₀ n₀ t₀ t' n' u c k × (stop' ≤ k)
-  mid-part {t' = t'} w h (goes-on ss j m' v d leads reached count wrote) {k} e =
+  mid-part w h (goes-on ss j m' v d leads reached count wrote) {k} e =
       let f : j ≡ k = cc in
-      (mid-more w (subst (Runs row stop at m o n t t') refl (runs-on ss j m' v d (leads-wider leads h) count wrote)) e, omega (arith, reached, f))
+      (mid-more w (runs-on ss j m' v d (leads-wider leads h) count wrote) e, omega (arith, reached, f))
   mid-part w h (goes-nowhere j within cells none-left same) e = let z : _≡_ {A = ℕ} 0 1 = cc in absurd (omega arith)
 
   pub mid-lost : {stop' : ℕ} {t' : List ℕ} (w : Walked) → Goes row stop' at m o n t t' w → {k : ℕ} → w ≡ Nowhere k
@@ -247,7 +247,7 @@ module _ (row : Row) (all : AllCells row) (at o : ℕ) (few : o < openStates) wh
   mode-on m zero = m
   mode-on m (suc j) = thenIn (wordOf (getD row (at + j) 0))
 
-  pub counted : (m j : ℕ) → (m ≡ free) ⊎ (m ≡ mixed) → Alone row at (at + j)
+  counted : (m j : ℕ) → (m ≡ free) ⊎ (m ≡ mixed) → Alone row at (at + j)
       → (ss : List Sign) × Leads row (length row) at m o (at + j) (mode-on m j) o ss × (length (printOf ss) ≡ j) × ((mode-on m j ≡ free) ⊎ (mode-on m j ≡ mixed))
   counted m zero e are =
       ([], subst (λ (k : ℕ). Leads row (length row) at m o k m o []) (sym (add-zero at)) (leads-none row (length row) at m o (omega (arith, are .within)) (⊎-elim (λ h. omega (arith, h)) (λ h. omega (arith, h)) e) few), refl, e)
@@ -256,7 +256,7 @@ module _ (row : Row) (all : AllCells row) (at o : ℕ) (few : o < openStates) wh
       let inside : at + j < length row = omega (arith, are .within) in
       let is = are .alone (at + j) (omega arith) (omega arith) in
       let cell = all (at + j) inside in
-      let step = alone-step row (at + j) (mode-on m j) o inside cell is (before .3) in
+      let step = alone-step row (at + j) (mode-on m j) o inside is (before .3) in
       let turn = turn-of row (at + j) (mode-on m j) o inside (before .1 .mode) few noPoint (pointIn (wordOf (getD row (at + j) 0))) (at + j + 1) (thenIn (wordOf (getD row (at + j) 0))) o step in
       let on = leads-turn (before .1) turn inside in (
         on .0,
