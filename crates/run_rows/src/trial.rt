@@ -126,13 +126,22 @@ fn lost() -> Walk {
     }
 }
 
-// What a step at a place makes of a walk. A sign is to be shown where the walk is, and at no other place.
+// What the screen shows at a place: the first step, or one by a reader that was moved there.
+fn shown_there(row: &[u8], place: usize) -> Shown {
+    if place == 0 {
+        return screen::first(row);
+    }
+    screen::shown_at(row, place)
+}
+
+// What a step at a place makes of a walk. A sign is to be shown where the walk is, and at no other place; the screen goes on behind it, and else stays.
 fn stepped(row: &[u8], text: &[u32], place: usize, walk: Walk) -> Walk {
     let is_due = place == walk.due && place < row.len();
-    let shown = screen::shown_at(row, place);
+    let shown = shown_there(row, place);
+    let after = screen::place_after(shown, place);
     match shown {
         Shown::Sign { lead, point, next } => {
-            if !is_due || next <= place {
+            if !is_due || next <= place || after != next {
                 return lost();
             }
             Walk {
@@ -140,7 +149,11 @@ fn stepped(row: &[u8], text: &[u32], place: usize, walk: Walk) -> Walk {
                 shown: behind_sign(text, walk.shown, lead, point),
             }
         }
-        Shown::Still => if is_due { lost() } else { walk },
+        Shown::Still => if is_due || after != place {
+            lost()
+        } else {
+            walk
+        },
         Shown::Refused(_) => lost(),
     }
 }
@@ -171,12 +184,13 @@ fn is_walked(row: &[u8], text: &[u32]) -> bool {
 
 // Is a step at a place refused so? (Number 0: is it not refused?)
 fn is_refused_at(row: &[u8], place: usize, number: usize, second: usize) -> bool {
-    let shown = screen::shown_at(row, place);
+    let shown = shown_there(row, place);
+    let after = screen::place_after(shown, place);
     let Shown::Refused(answer) = shown else {
         return number == DONE;
     };
     let refusal = desk::read_numbers(answer);
-    refusal.number == number && refusal.second == second
+    refusal.number == number && refusal.second == second && after == place
 }
 
 // Is the step at every place that is asked refused so?
