@@ -33,8 +33,8 @@ pub enum Walked {
     Nowhere(usize),
 }
 
-// Writes a sign's code points behind those that are counted, if there is room for them, and counts them. (Where there is none for one, the last element is
-// written, for which it is too late: so the machine has nowhere to jump.)
+// Writes a sign's code points behind those that are counted, if there is room for them, and counts them. (One that has no room is written to the last element:
+// the text does not fit then, whatever stands there, and the machine has no jump to take.)
 fn put(text: &mut [u32], count: usize, lead: u32, point: u32) -> usize
     requires { ⌜ (count ≤ mostPoints) × (1 ≤ length (now text)) ⌝ }
     ensures { λ r. ⌜ (r ≡ count + length (points lead point)) × Wrote (now (text .entry)) (now (text .exit)) count (points lead point) ⌝ }
