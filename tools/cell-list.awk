@@ -1,8 +1,8 @@
 # Prints the cells, one line for each of the 64, in their order, with tabs between:
 #
-#     CELL DOTS CLASS POINT CAPITAL FIGURE LOWER KIND COMMENT
-#     3 12 B_TO_J 0x62 0x42 0x32 none none b B 2
-#     38 236 MARK_OR_LOW none none none 0x38 2 « » 8
+#     CELL DOTS CLASS POINT CAPITAL FIGURE LOWER KIND INSIDE COMMENT
+#     3 12 B_TO_J 0x62 0x42 0x32 none none 0x32 b B 2
+#     38 236 MARK_OR_LOW none none none 0x38 2 none « » 8
 #
 # and behind them, after `two`, each sign of two cells whose first is none by itself, by its code point (but for 46: what
 # follows it is code's to decide):
@@ -11,7 +11,8 @@
 #     two 5 123 0x7b {
 #
 # POINT is the small letter or the sign that the cell is alone, CAPITAL the capital letter, FIGURE and LOWER the digit of the
-# cell and of the cell as a lower digit, KIND that of a pair mark. CLASS is a class of tools/readings.txt.
+# cell and of the cell as a lower digit, KIND that of a pair mark, INSIDE what the cell is inside a number: its digit, the full
+# stop or the comma. CLASS is a class of tools/readings.txt.
 #
 # What is read: the lines of tools/sign-list.awk. tools/print-cells.sh and tools/print-cell-list.sh print from these lines.
 # Nothing printed is trusted: the prover compares what is read at each cell with the rules.
@@ -83,12 +84,14 @@ function class(d) {
 
 function or_none(list, d) { return (list, d) in has ? has[list, d] : "none" }
 
+function inside(d) { return or_none(d == named["FULL_STOP"] || d == named["COMMA"] ? "point" : "figure", d) }
+
 END {
     if (failed) exit 1
     for (c = 0; c < 64; c++) {
         d = dots(c)
-        printf "%d\t%s\t%s\t%s\t%s\t%s\t%s\t%s\t%s\n", c, d, class(d), or_none("point", d), or_none("capital", d), \
-            or_none("figure", d), or_none("lower", d), or_none("kind", d), said[d]
+        printf "%d\t%s\t%s\t%s\t%s\t%s\t%s\t%s\t%s\t%s\n", c, d, class(d), or_none("point", d), or_none("capital", d), \
+            or_none("figure", d), or_none("lower", d), or_none("kind", d), inside(d), said[d]
     }
     for (i = 1; i <= twos; i++) print two[i]
 }

@@ -1,7 +1,7 @@
 #!/bin/sh
 # Prints the proof of a look-up of one field of the cells, crates/readings/proofs/cells/FUNCTION/Proof.antt: field-proof.sh
-# FUNCTION FIELD COLUMN PRINTER. Its keys are the cells that have something in that column of tools/cell-list.awk, or, where
-# COLUMN is `every`, all cells; one need for each, and one for all others. PRINTER is the script that runs this one.
+# FUNCTION FIELD COLUMN PRINTER. Its keys are the cells that have something in that column of tools/cell-list.awk; one need for
+# each, and one for all others. PRINTER is the script that runs this one.
 #
 # Nothing printed is trusted: the prover checks the proof.
 set -eu
@@ -13,14 +13,14 @@ export LC_ALL
 
 function=$1 field=$2 column=$3 printer=$4
 keys=$(awk -f tools/sign-list.awk | awk -f tools/cell-list.awk | awk -F '\t' -v column="$column" '
-$1 != "two" && (column == "every" || $column != "none") { print $1 }')
+$1 != "two" && $column != "none" { print $1 }')
 count=$(printf '%s\n' "$keys" | awk 'END { print NR }')
 name=$(echo "$function" | tr _ -)
 
 cat <<TEXT
 -- Printed by tools/$printer: change that.
 -- \`cells::$function\`: at each key antt computes both sides; no other cell has the field (\`no-field\`). Assumes nothing.
-use mathlib.Core.Path.{_≡_, refl, sym, ap}
+use mathlib.Core.Path.{refl, sym, ap}
 use mathlib.Core.List.{List, [], _∷_}
 use Prim.Native.Nat.{ℕ}
 use Rattle.readings.specs.Fields.{$field}

@@ -85,7 +85,7 @@ $1 == "two" { next }
     if ($6 != "none") word = word " + figureAt * " $6
     if ($7 != "none") word = word " + lowerAt * " $7
     if ($8 != "none") word = word " + kindAt * " $8
-    print "    -- " $2 ($9 == "" ? "" : ": " $9)
+    print "    -- " $2 ($10 == "" ? "" : ": " $10)
     print "    " (n++ ? "∷ " : "") (word ~ / / ? "(" word ")" : word)
 }
 END { print "    ∷ []" }'
@@ -93,7 +93,7 @@ END { print "    ∷ []" }'
 alone() { # NAME LETTERS
     { printf '%s\n' "$places" | awk '{ print "place\t" $0 }'; printf '%s\n' "$cells"; } | awk -v letters="$2" -f tools/alone-cells.awk | awk -F '\t' -v name="$1" '
     BEGIN { print "abbrev pub " name " : ℕ"; print name " =" }
-    { print "    -- " $2 ": " $9; print "    " (NR == 1 ? "" : "+ ") "2 ^ " $1 }'
+    { print "    -- " $2 ": " $10; print "    " (NR == 1 ? "" : "+ ") "2 ^ " $1 }'
 }
 
 cat <<'TEXT'

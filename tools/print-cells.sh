@@ -31,7 +31,7 @@ TEXT
 
 cat <<'TEXT'
 ghost use mathlib.Core.Path.{_≡_};
-ghost use Rattle.readings.specs.Fields.{capitalIn, figureIn, lowerIn, letterIn, runIn};
+ghost use Rattle.readings.specs.Fields.{capitalIn, letterIn, insideIn, runIn};
 ghost use Rattle.readings.specs.Words.{wordOf, twoOf};
 
 // The cells, by their dots.
@@ -81,20 +81,21 @@ $1 != "two" && $3 != "NOTHING" {
     if ($6 != "none") word = word " + FIGURE_AT * " $6
     if ($7 != "none") word = word " + LOWER_AT * " $7
     if ($8 != "none") word = word " + KIND_AT * " $8
-    print "const W" $2 ": u64 = " word ";" ($9 == "" ? "" : " // " $9)
+    print "const W" $2 ": u64 = " word ";" ($10 == "" ? "" : " // " $10)
     print ""
 }'
 
 cat <<'TEXT'
 // The word of a cell; that of a byte that is none begins no sign. (For the first cell of a sign. It has one caller, so that the compiler draws it into the
-// loop; the look-ups below are for the cells that follow.)
+// loop, and every byte is named, so that it reads a table there and asks nothing first; the look-ups below are for the cells that follow.)
 pub fn word_of(cell: u8) -> u64
     ensures { λ r. ⌜ r ≡ wordOf cell ⌝ }
 {
     match cell {
 TEXT
 printf '%s\n' "$cells" | awk -F '\t' '
-$1 != "two" { print "        D" $2 " => " ($3 == "NOTHING" ? $3 : "W" $2) "," }'
+$1 != "two" { print "        D" $2 " => " ($3 == "NOTHING" ? $3 : "W" $2) "," }
+END { for (byte = 64; byte < 255; byte++) print "        " byte " => NOTHING," (byte == 64 ? " // from here on no cells" : "") }'
 
 cat <<'TEXT'
         _ => NOTHING,
@@ -116,8 +117,7 @@ alone LETTERS_ALONE 1
 echo
 alone SIGNS_ALONE 0
 
-# A look-up of one field, for the cells that follow: NAME, its column of the cells' lines, what it is, the field, and a column that must have something too. Where `every` stands last, the cells that
-# do not have the field are named as well.
+# A look-up of one field, for the cells that follow: NAME, its column of the cells' lines, what it is, the field, and a column that must have something too.
 field() {
     cat <<TEXT
 
@@ -127,10 +127,8 @@ pub fn $1(cell: u8) -> u32
 {
     match cell {
 TEXT
-    printf '%s\n' "$cells" | awk -F '\t' -v column="$2" -v only="$5" -v every="${6-}" '
-    $1 == "two" { next }
-    $column != "none" && $only != "none" { print "        D" $2 " => " $column ", // " $9; next }
-    every { print "        D" $2 " => NO_POINT," }'
+    printf '%s\n' "$cells" | awk -F '\t' -v column="$2" -v only="$5" '
+    $1 != "two" && $column != "none" && $only != "none" { print "        D" $2 " => " $column ", // " $10 }'
     cat <<'TEXT'
         _ => NO_POINT,
     }
@@ -140,9 +138,8 @@ TEXT
 
 field capital_of 5 'The capital of a letter, or NO_POINT.' capitalIn 5
 field capital_owed 5 'The same, where one capital follows another, each with its 46. (A look-up of its own, for the loop over them.)' capitalIn 5
-field figure_of 6 'The digit of a cell, or NO_POINT. (Here and below every cell is named: with gaps as wide the compiler would make jumps of them, and no table.)' figureIn 6 every
-field lower_of 7 'The digit of a cell as a lower digit, or NO_POINT.' lowerIn 7 every
-field letter_of 4 'The letter of a cell that is a digit too, a to j, or NO_POINT.' letterIn 6 every
+field letter_of 4 'The small letter, or NO_POINT.' letterIn 5
+field inside_number 9 'What a cell is inside a number: its digit, the full stop or the comma; or NO_POINT. (Of the digits alone the compiler would make jumps, and no table: they are too far apart.)' insideIn 9
 
 cat <<'TEXT'
 
@@ -154,7 +151,7 @@ $1 != "two" && $5 $6 $7 != "nonenonenone" {
     if ($6 != "none") word = word " + RUN_FIGURE * " $6
     if ($5 != "none") word = word " + RUN_CAPITAL * " $5
     if ($7 != "none") word = word " + RUN_LOWER * " $7
-    print "const R" $2 ": u64 = " substr(word, 4) "; // " $9
+    print "const R" $2 ": u64 = " substr(word, 4) "; // " $10
     print ""
 }'
 cat <<'TEXT'

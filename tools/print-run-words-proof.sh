@@ -11,8 +11,9 @@ CDPATH='' cd "$(dirname "$0")/.."
 cat <<'TEXT'
 -- Printed by tools/print-run-words-proof.sh: change that.
 -- `cells::run_word`: at each cell antt computes both sides; a byte that is no cell has no word. Assumes nothing.
-use mathlib.Core.Path.{_≡_, refl, sym, ap, _∙_}
+use mathlib.Core.Path.{sym, ap}
 use Prim.Native.Nat.{ℕ}
+use native.Mathlib.Omega.{arith}
 use Rattle.entries.proofs.Places.{upto}
 use Rattle.readings.specs.Fields.{runIn}
 use Rattle.readings.specs.Words.{words, wordOf}
@@ -22,7 +23,7 @@ use Rattle.readings.proofs.cells.run_word.Tie as tie
 
 other : tie.Need-returns-65
 unfolding upto
-other c = ap runIn (no-word (c .before .args .cell) (c .match .rest))
+other c = ap runIn (no-word 64 (omega arith) (c .before .args .cell) (c .match .rest))
 
 pub run-word-spec : {M : Type 1} → statement M
 unfolding words

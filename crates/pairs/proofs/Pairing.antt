@@ -1,17 +1,18 @@
 -- The pair rule over bits is that of the rules: which kinds are open is a number below 2 ^ kinds, and what turning a kind does to it is one test over
 -- all of them. In order: the kind and the side of a mark, from its number; a kind turned, in the rules' words and as the code does it; what a mark
 -- means, and the two cases of `pairs_after`; the end and the start of a text. Assumes nothing.
-use mathlib.Core.Path.{_≡_, refl, sym, ap, _∙_, subst, fun-ext}
-use mathlib.Core.Bool.{Bool, true, false, _||_, not, cond, Bool·beq}
+use mathlib.Core.Path.{_≡_, refl, sym, ap, _∙_, fun-ext}
+use mathlib.Core.Bool.{Bool, true, false, not, cond, Bool·beq}
 use mathlib.Core.List.{List, [], _∷_}
 use mathlib.Core.Logic.{⊎-elim}
 use mathlib.Core.Option.{Option, none, some}
 use Prim.Native.Nat.{ℕ, suc, _+_, _-_, _*_, _%_, _^_, _≤_, _<_}
 use native.Mathlib.Omega.{arith}
-use lib.Dec.{T, eqb, ltb, leb, eqb→eq, ltb→lt, leb→le}
+use lib.Bits.{bitXor}
+use lib.Dec.{T, eqb, ltb, eqb→eq, ltb→lt}
 use borrow.Author.Tests.{ne-eqb, lt-ltb, le-ltb}
 use Rattle.rules.specs.Pairs.{kinds, mayStand, markFits, markTurns, closed, closedBelow}
-use Rattle.rules.proofs.Finite.{le-or-lt, below, at-below, beq-same, false-of, implies, holds, Hold, hold}
+use Rattle.rules.proofs.Finite.{le-or-lt, below, at-below, beq-same, false-of, holds, Hold, hold}
 use Rattle.entries.specs.Entries.{marks, markNumber}
 use Rattle.pairs.specs.Opened.{openStates, isOpen, opensOf, turnedBy, kindBy, openerBy, pairsBy}
 use Rattle.pairs.specs.declared.Pairs.{Pairs}
@@ -24,8 +25,6 @@ kind-facts k =
     ∷ Bool·beq (openerBy (2 * k + 1)) true
     ∷ eqb (kindBy (2 * k + 2)) k
     ∷ Bool·beq (openerBy (2 * k + 2)) false
-    ∷ eqb (1 * 2 ^ k % 18446744073709551616) (2 ^ k)
-    ∷ leb (2 ^ k) openStates
     ∷ []
 
 kinds-right : T (below (λ k. holds (kind-facts k)) kinds)
@@ -66,7 +65,7 @@ turn-facts : ℕ → ℕ → ℕ → List Bool
 turn-facts o k j =
     Bool·beq (opensOf (turnedBy o k) j) (cond (eqb j k) (not (isOpen o k)) (opensOf o j))
     ∷ ltb (turnedBy o k) openStates
-    ∷ (not (isOpen o k) || leb (2 ^ k) o)
+    ∷ eqb (bitXor o (1 * 2 ^ k % 18446744073709551616)) (turnedBy o k)
     ∷ []
 
 turns-right : T (below (λ o. below (λ k. below (λ j. holds (turn-facts o k j)) kinds) kinds) openStates)
@@ -88,10 +87,6 @@ module _ (o k : ℕ) (few : o < openStates) (l : k < kinds) where
   unfolding turn-facts
   turned-few = ltb→lt (turnedBy o k) openStates (at-turn k l .1 .0)
 
-  bit-below : isOpen o k ≡ true → 2 ^ k ≤ o
-  unfolding turn-facts
-  bit-below e = leb→le (2 ^ k) o (implies (isOpen o k) (leb (2 ^ k) o) (subst T (sym e) tt) (at-turn k l .1 .1 .0))
-
   -- that kind is the other way, and the others are as they were
   seen : (j : ℕ) → opensOf (turnedBy o k) j ≡ cond (eqb j k) (not (isOpen o k)) (opensOf o j)
   unfolding turn-facts
@@ -111,23 +106,10 @@ module _ (o k : ℕ) (few : o < openStates) (l : k < kinds) where
   pub closing : isOpen o k ≡ true → markTurns (some (k, false)) (opensOf o) ≡ opensOf (turnedBy o k)
   closing e = turning true e
 
-  -- the code's bit, and its two ways to turn it
-  bit-is : 1 * 2 ^ k % 18446744073709551616 ≡ 2 ^ k
-  unfolding kind-facts
-  bit-is = eqb→eq (1 * 2 ^ k % 18446744073709551616) (2 ^ k) (at-kind k l .1 .1 .1 .1 .0)
-
-  pub bit-fits : o + 1 * 2 ^ k % 18446744073709551616 < 18446744073709551616
-  unfolding kind-facts
-  bit-fits = let s : 2 ^ k ≤ openStates = leb→le (2 ^ k) openStates (at-kind k l .1 .1 .1 .1 .1 .0) in omega (arith, bit-is, s, few)
-
-  pub bit-there : isOpen o k ≡ true → 1 * 2 ^ k % 18446744073709551616 ≤ o
-  bit-there e = omega (arith, bit-is, bit-below e)
-
-  pub bit-off : isOpen o k ≡ true → o - 1 * 2 ^ k % 18446744073709551616 ≡ turnedBy o k
-  bit-off e = ap (λ (b : ℕ). o - b) bit-is ∙ sym (rw e)
-
-  pub bit-on : isOpen o k ≡ false → o + 1 * 2 ^ k % 18446744073709551616 ≡ turnedBy o k
-  bit-on e = ap (λ (b : ℕ). o + b) bit-is ∙ sym (rw e)
+  -- the code turns the kind's bit
+  pub bit-turned : bitXor o (1 * 2 ^ k % 18446744073709551616) ≡ turnedBy o k
+  unfolding turn-facts
+  bit-turned = eqb→eq (bitXor o (1 * 2 ^ k % 18446744073709551616)) (turnedBy o k) (at-turn k l .1 .1 .0)
 
   -- WHAT A MARK MEANS: of this kind and side it stands, and turns its kind; or it may not stand
   abbrev pub Means : Bool → Pairs → Type 0

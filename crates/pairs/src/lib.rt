@@ -25,11 +25,7 @@ pub fn turned(opened: usize, kind: usize) -> usize
     requires { ⌜ (opened < openStates) × (kind < kinds) ⌝ }
     ensures { λ r. ⌜ r ≡ turnedBy opened kind ⌝ }
 {
-    let bit = 1usize << kind;
-    if is_open(opened, kind) {
-        return opened - bit;
-    }
-    opened + bit
+    opened ^ (1usize << kind)
 }
 
 // "An opener stands only where its kind is closed, a closer only where it is open." The mark is 2k + 1 for the opener of kind k, 2k + 2 for

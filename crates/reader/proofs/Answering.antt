@@ -1,7 +1,7 @@
--- From what a walk finds to the promise. In order: the row's refusals; a row that is read, and the ends of `read`. All over plain values. Assumes nothing.
+-- From what a walk finds to the promise. In order: the row's refusals; a row that is read, and the ends of `read`; an empty row. All over plain values. Assumes nothing.
 use mathlib.Core.Path.{_≡_, refl, sym, ap, _∙_, subst}
-use mathlib.Core.List.{List}
-use Prim.Native.Nat.{ℕ, _≤_, _<_}
+use mathlib.Core.List.{List, [], _∷_}
+use Prim.Native.Nat.{ℕ, _≤_, _<_, zero-le}
 use native.Mathlib.Omega.{arith}
 use native.Mathlib.Nat.{min-eq-left}
 use lib.ListN.{length}
@@ -12,10 +12,12 @@ use Rattle.rules.specs.Refusals.{tooLong, needsRoom, notACell, noText, longestT
 use Rattle.rules.specs.Answers as rules
 use Rattle.rules.specs.Answers.{refuses, ProperRow, ReadsAs, RowRefused, long-row, not-a-cell, no-text, long-text, RowAnswer, text-needs-room}
 use Rattle.rules.specs.Castilian.{castilian}
+use Rattle.rules.proofs.Machine.{at-rest}
 use Rattle.rules.proofs.Signs.{cells-of-text}
 use Rattle.rules.proofs.Castilian.{sane}
 use Rattle.rows.specs.Laid.{laid}
 use Rattle.readings.specs.Left.{left}
+use Rattle.readings.proofs.Turning.{end-left}
 use Rattle.reader.specs.Promise.{Read, done, refused}
 use Rattle.reader.specs.Passes.{FirstHigh, RefusesRow}
 use Rattle.reader.specs.declared.Answer.{Answer}
@@ -79,3 +81,13 @@ module _ (r : Row) where
   pub read-refused : (a : Answer) → RefusesRow castilian r a → (lent new : List ℕ) → new ≡ lent → Read castilian r lent a new
   read-refused a h lent new same =
       subst (Read castilian r lent a) (sym same) (refused a (h .0) (h .1) (rules.row-refused (h .0) (h .2)))
+
+-- AN EMPTY ROW has the empty text
+nothing-told : Told (left 0 0 []) 0
+unfolding at-rest
+nothing-told = record { signs = []; are = end-left [] 0 0 0 zero-le (omega arith); count = refl }
+
+pub read-empty : (r : Row) → length r ≡ 0 → (lent : List ℕ) → Read castilian r lent (Done 0) lent
+unfolding nothing-told
+read-empty [] e lent = read-done [] (omega arith) nothing-told lent lent refl (omega arith) zero-le
+read-empty (c ∷ r) e lent = absurd (omega arith)

@@ -182,6 +182,10 @@ pub fn read(row: &[u8], text: &mut [u32]) -> Answer
     if LONGEST_ROW < row.len() {
         return Answer::TooLong(reported_length(row.len()));
     }
+    // An empty row has the empty text. Without this it would pay for a draft.
+    if row.len() == 0 {
+        return Answer::Done(0);
+    }
     if row.len() <= WORD_ROW {
         let mut draft = [NO_POINT; WORD_ROW];
         return read_by(row, &mut draft, text);

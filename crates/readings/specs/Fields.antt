@@ -1,6 +1,6 @@
 -- The word of a cell: a number whose fields say what the cell may be. In order: the classes; where the fields stand; what a word says; the cell at a place of a
 -- row. The words stand in `Words`. The code's constants are these (src/lib.rt). Assumes nothing.
-use mathlib.Core.Bool.{Bool, cond}
+use mathlib.Core.Bool.{Bool, cond, _||_}
 use Prim.Native.Nat.{ℕ, _+_, _*_, _/_, _%_, _^_}
 use lib.Dec.{eqb, leb}
 use lib.ListN.{getD}
@@ -103,9 +103,13 @@ figureIn w = w / figureAt % 64
 abbrev pub lowerIn : ℕ → ℕ
 lowerIn w = w / lowerAt % 64
 
--- its letter, where it is the cell of a digit too
+-- its small letter, where it is a letter
 abbrev pub letterIn : ℕ → ℕ
-letterIn w = cond (eqb (figureIn w) 0) 0 (pointIn w)
+letterIn w = cond (eqb (capitalIn w) 0) 0 (pointIn w)
+
+-- what it is inside a number: its digit, or else the full stop or the comma
+abbrev pub insideIn : ℕ → ℕ
+insideIn w = cond (eqb (figureIn w) 0) (cond (eqb (classIn w) stop || eqb (classIn w) comma) (pointIn w) 0) (figureIn w)
 
 abbrev pub kindIn : ℕ → ℕ
 kindIn w = w / kindAt % 16

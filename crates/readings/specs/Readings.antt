@@ -2,9 +2,10 @@
 -- place; the step that it is. These are the inner functions' promises: that a reading is what the rules find is shown in proofs/. Assumes nothing.
 use mathlib.Core.Bool.{Bool, cond, not, _&&_}
 use mathlib.Core.List.{List, [], _∷_}
-use Prim.Native.Nat.{ℕ, _+_}
+use Prim.Native.Nat.{ℕ, _+_, _%_}
 use Prim.Native.Char.{code}
 use lib.Dec.{eqb, ltb}
+use lib.ListN.{getD}
 use Rattle.rules.specs.Cells.{Row, dots}
 use Rattle.entries.specs.Chosen.{choose}
 use Rattle.pairs.specs.Opened.{isOpen, turnedBy}
@@ -116,17 +117,18 @@ unfolding byWord
 readingOf m x y z = byWord m (wordOf x) x y z
 
 -- THE STEP that a reading is, at a place and with these pairs open
-abbrev pub openers : List (ℕ × ℕ)
-openers = (0, code "¿") ∷ (1, code "¡") ∷ (2, code "«") ∷ (3, code "‘") ∷ []
+-- The marks, in the order of the kinds, of which there are fewer than 8.
+abbrev pub openers : List ℕ
+openers = code "¿" ∷ code "¡" ∷ code "«" ∷ code "‘" ∷ 0xe000 ∷ []
 
 unfoldable pub openerOf : ℕ → ℕ
-openerOf k = choose openers k 0xe000
+openerOf k = getD openers (k % 8) noPoint
 
-abbrev pub closers : List (ℕ × ℕ)
-closers = (0, code "?") ∷ (1, code "!") ∷ (2, code "»") ∷ (3, code "’") ∷ []
+abbrev pub closers : List ℕ
+closers = code "?" ∷ code "!" ∷ code "»" ∷ code "’" ∷ 0xe001 ∷ []
 
 unfoldable pub closerOf : ℕ → ℕ
-closerOf k = choose closers k 0xe001
+closerOf k = getD closers (k % 8) noPoint
 
 abbrev pub markStep : ℕ → ℕ → ℕ → Step
 markStep next o k = step.Sign noPoint (cond (isOpen o k) (closerOf k) (openerOf k)) next mode.free (turnedBy o k)

@@ -42,7 +42,7 @@ use crate::UNDER;
 use crate::USUAL_AT;
 use crate::WHOLE2;
 ghost use mathlib.Core.Path.{_≡_};
-ghost use Rattle.readings.specs.Fields.{capitalIn, figureIn, lowerIn, letterIn, runIn};
+ghost use Rattle.readings.specs.Fields.{capitalIn, letterIn, insideIn, runIn};
 ghost use Rattle.readings.specs.Words.{wordOf, twoOf};
 
 // The cells, by their dots.
@@ -426,7 +426,7 @@ const W13456: u64 = AS_OTHER_LETTER + POINT_AT * 0x79 + CAPITAL_AT * 0x59; // Y 
 const W23456: u64 = AS_OTHER_LETTER + POINT_AT * 0xfa + CAPITAL_AT * 0xda; // Ú ú
 
 // The word of a cell; that of a byte that is none begins no sign. (For the first cell of a sign. It has one caller, so that the compiler draws it into the
-// loop; the look-ups below are for the cells that follow.)
+// loop, and every byte is named, so that it reads a table there and asks nothing first; the look-ups below are for the cells that follow.)
 pub fn word_of(cell: u8) -> u64
     ensures { λ r. ⌜ r ≡ wordOf cell ⌝ }
 {
@@ -495,6 +495,197 @@ pub fn word_of(cell: u8) -> u64
         D13456 => W13456,
         D23456 => W23456,
         D123456 => NOTHING,
+        64 => NOTHING, // from here on no cells
+        65 => NOTHING,
+        66 => NOTHING,
+        67 => NOTHING,
+        68 => NOTHING,
+        69 => NOTHING,
+        70 => NOTHING,
+        71 => NOTHING,
+        72 => NOTHING,
+        73 => NOTHING,
+        74 => NOTHING,
+        75 => NOTHING,
+        76 => NOTHING,
+        77 => NOTHING,
+        78 => NOTHING,
+        79 => NOTHING,
+        80 => NOTHING,
+        81 => NOTHING,
+        82 => NOTHING,
+        83 => NOTHING,
+        84 => NOTHING,
+        85 => NOTHING,
+        86 => NOTHING,
+        87 => NOTHING,
+        88 => NOTHING,
+        89 => NOTHING,
+        90 => NOTHING,
+        91 => NOTHING,
+        92 => NOTHING,
+        93 => NOTHING,
+        94 => NOTHING,
+        95 => NOTHING,
+        96 => NOTHING,
+        97 => NOTHING,
+        98 => NOTHING,
+        99 => NOTHING,
+        100 => NOTHING,
+        101 => NOTHING,
+        102 => NOTHING,
+        103 => NOTHING,
+        104 => NOTHING,
+        105 => NOTHING,
+        106 => NOTHING,
+        107 => NOTHING,
+        108 => NOTHING,
+        109 => NOTHING,
+        110 => NOTHING,
+        111 => NOTHING,
+        112 => NOTHING,
+        113 => NOTHING,
+        114 => NOTHING,
+        115 => NOTHING,
+        116 => NOTHING,
+        117 => NOTHING,
+        118 => NOTHING,
+        119 => NOTHING,
+        120 => NOTHING,
+        121 => NOTHING,
+        122 => NOTHING,
+        123 => NOTHING,
+        124 => NOTHING,
+        125 => NOTHING,
+        126 => NOTHING,
+        127 => NOTHING,
+        128 => NOTHING,
+        129 => NOTHING,
+        130 => NOTHING,
+        131 => NOTHING,
+        132 => NOTHING,
+        133 => NOTHING,
+        134 => NOTHING,
+        135 => NOTHING,
+        136 => NOTHING,
+        137 => NOTHING,
+        138 => NOTHING,
+        139 => NOTHING,
+        140 => NOTHING,
+        141 => NOTHING,
+        142 => NOTHING,
+        143 => NOTHING,
+        144 => NOTHING,
+        145 => NOTHING,
+        146 => NOTHING,
+        147 => NOTHING,
+        148 => NOTHING,
+        149 => NOTHING,
+        150 => NOTHING,
+        151 => NOTHING,
+        152 => NOTHING,
+        153 => NOTHING,
+        154 => NOTHING,
+        155 => NOTHING,
+        156 => NOTHING,
+        157 => NOTHING,
+        158 => NOTHING,
+        159 => NOTHING,
+        160 => NOTHING,
+        161 => NOTHING,
+        162 => NOTHING,
+        163 => NOTHING,
+        164 => NOTHING,
+        165 => NOTHING,
+        166 => NOTHING,
+        167 => NOTHING,
+        168 => NOTHING,
+        169 => NOTHING,
+        170 => NOTHING,
+        171 => NOTHING,
+        172 => NOTHING,
+        173 => NOTHING,
+        174 => NOTHING,
+        175 => NOTHING,
+        176 => NOTHING,
+        177 => NOTHING,
+        178 => NOTHING,
+        179 => NOTHING,
+        180 => NOTHING,
+        181 => NOTHING,
+        182 => NOTHING,
+        183 => NOTHING,
+        184 => NOTHING,
+        185 => NOTHING,
+        186 => NOTHING,
+        187 => NOTHING,
+        188 => NOTHING,
+        189 => NOTHING,
+        190 => NOTHING,
+        191 => NOTHING,
+        192 => NOTHING,
+        193 => NOTHING,
+        194 => NOTHING,
+        195 => NOTHING,
+        196 => NOTHING,
+        197 => NOTHING,
+        198 => NOTHING,
+        199 => NOTHING,
+        200 => NOTHING,
+        201 => NOTHING,
+        202 => NOTHING,
+        203 => NOTHING,
+        204 => NOTHING,
+        205 => NOTHING,
+        206 => NOTHING,
+        207 => NOTHING,
+        208 => NOTHING,
+        209 => NOTHING,
+        210 => NOTHING,
+        211 => NOTHING,
+        212 => NOTHING,
+        213 => NOTHING,
+        214 => NOTHING,
+        215 => NOTHING,
+        216 => NOTHING,
+        217 => NOTHING,
+        218 => NOTHING,
+        219 => NOTHING,
+        220 => NOTHING,
+        221 => NOTHING,
+        222 => NOTHING,
+        223 => NOTHING,
+        224 => NOTHING,
+        225 => NOTHING,
+        226 => NOTHING,
+        227 => NOTHING,
+        228 => NOTHING,
+        229 => NOTHING,
+        230 => NOTHING,
+        231 => NOTHING,
+        232 => NOTHING,
+        233 => NOTHING,
+        234 => NOTHING,
+        235 => NOTHING,
+        236 => NOTHING,
+        237 => NOTHING,
+        238 => NOTHING,
+        239 => NOTHING,
+        240 => NOTHING,
+        241 => NOTHING,
+        242 => NOTHING,
+        243 => NOTHING,
+        244 => NOTHING,
+        245 => NOTHING,
+        246 => NOTHING,
+        247 => NOTHING,
+        248 => NOTHING,
+        249 => NOTHING,
+        250 => NOTHING,
+        251 => NOTHING,
+        252 => NOTHING,
+        253 => NOTHING,
+        254 => NOTHING,
         _ => NOTHING,
     }
 }
@@ -627,221 +818,65 @@ pub fn capital_owed(cell: u8) -> u32
     }
 }
 
-// The digit of a cell, or NO_POINT. (Here and below every cell is named: with gaps as wide the compiler would make jumps of them, and no table.)
-pub fn figure_of(cell: u8) -> u32
-    ensures { λ r. ⌜ r ≡ figureIn (wordOf cell) ⌝ }
-{
-    match cell {
-        D0 => NO_POINT,
-        D1 => 0x31, // 1 A a ª
-        D2 => NO_POINT,
-        D12 => 0x32, // 2 B b
-        D3 => NO_POINT,
-        D13 => NO_POINT,
-        D23 => NO_POINT,
-        D123 => NO_POINT,
-        D4 => NO_POINT,
-        D14 => 0x33, // 3 C c
-        D24 => 0x39, // 9 I i
-        D124 => 0x36, // 6 F f
-        D34 => NO_POINT,
-        D134 => NO_POINT,
-        D234 => NO_POINT,
-        D1234 => NO_POINT,
-        D5 => NO_POINT,
-        D15 => 0x35, // 5 E e
-        D25 => NO_POINT,
-        D125 => 0x38, // 8 H h
-        D35 => NO_POINT,
-        D135 => NO_POINT,
-        D235 => NO_POINT,
-        D1235 => NO_POINT,
-        D45 => NO_POINT,
-        D145 => 0x34, // 4 D d
-        D245 => 0x30, // 0 J j
-        D1245 => 0x37, // 7 G g
-        D345 => NO_POINT,
-        D1345 => NO_POINT,
-        D2345 => NO_POINT,
-        D12345 => NO_POINT,
-        D6 => NO_POINT,
-        D16 => NO_POINT,
-        D26 => NO_POINT,
-        D126 => NO_POINT,
-        D36 => NO_POINT,
-        D136 => NO_POINT,
-        D236 => NO_POINT,
-        D1236 => NO_POINT,
-        D46 => NO_POINT,
-        D146 => NO_POINT,
-        D246 => NO_POINT,
-        D1246 => NO_POINT,
-        D346 => NO_POINT,
-        D1346 => NO_POINT,
-        D2346 => NO_POINT,
-        D12346 => NO_POINT,
-        D56 => NO_POINT,
-        D156 => NO_POINT,
-        D256 => NO_POINT,
-        D1256 => NO_POINT,
-        D356 => NO_POINT,
-        D1356 => NO_POINT,
-        D2356 => NO_POINT,
-        D12356 => NO_POINT,
-        D456 => NO_POINT,
-        D1456 => NO_POINT,
-        D2456 => NO_POINT,
-        D12456 => NO_POINT,
-        D3456 => NO_POINT,
-        D13456 => NO_POINT,
-        D23456 => NO_POINT,
-        D123456 => NO_POINT,
-        _ => NO_POINT,
-    }
-}
-
-// The digit of a cell as a lower digit, or NO_POINT.
-pub fn lower_of(cell: u8) -> u32
-    ensures { λ r. ⌜ r ≡ lowerIn (wordOf cell) ⌝ }
-{
-    match cell {
-        D0 => NO_POINT,
-        D1 => NO_POINT,
-        D2 => 0x31, // , 1
-        D12 => NO_POINT,
-        D3 => NO_POINT,
-        D13 => NO_POINT,
-        D23 => 0x32, // 2 ;
-        D123 => NO_POINT,
-        D4 => NO_POINT,
-        D14 => NO_POINT,
-        D24 => NO_POINT,
-        D124 => NO_POINT,
-        D34 => NO_POINT,
-        D134 => NO_POINT,
-        D234 => NO_POINT,
-        D1234 => NO_POINT,
-        D5 => NO_POINT,
-        D15 => NO_POINT,
-        D25 => 0x33, // 3 :
-        D125 => NO_POINT,
-        D35 => 0x39, // 9 emphasis opens emphasis closes
-        D135 => NO_POINT,
-        D235 => 0x36, // ! 6 ¡
-        D1235 => NO_POINT,
-        D45 => NO_POINT,
-        D145 => NO_POINT,
-        D245 => NO_POINT,
-        D1245 => NO_POINT,
-        D345 => NO_POINT,
-        D1345 => NO_POINT,
-        D2345 => NO_POINT,
-        D12345 => NO_POINT,
-        D6 => NO_POINT,
-        D16 => NO_POINT,
-        D26 => 0x35, // 5 ? ¿
-        D126 => NO_POINT,
-        D36 => NO_POINT,
-        D136 => NO_POINT,
-        D236 => 0x38, // 8 « »
-        D1236 => NO_POINT,
-        D46 => NO_POINT,
-        D146 => NO_POINT,
-        D246 => NO_POINT,
-        D1246 => NO_POINT,
-        D346 => NO_POINT,
-        D1346 => NO_POINT,
-        D2346 => NO_POINT,
-        D12346 => NO_POINT,
-        D56 => NO_POINT,
-        D156 => NO_POINT,
-        D256 => 0x34, // 4
-        D1256 => NO_POINT,
-        D356 => 0x30, // 0
-        D1356 => NO_POINT,
-        D2356 => 0x37, // 7 =
-        D12356 => NO_POINT,
-        D456 => NO_POINT,
-        D1456 => NO_POINT,
-        D2456 => NO_POINT,
-        D12456 => NO_POINT,
-        D3456 => NO_POINT,
-        D13456 => NO_POINT,
-        D23456 => NO_POINT,
-        D123456 => NO_POINT,
-        _ => NO_POINT,
-    }
-}
-
-// The letter of a cell that is a digit too, a to j, or NO_POINT.
+// The small letter, or NO_POINT.
 pub fn letter_of(cell: u8) -> u32
     ensures { λ r. ⌜ r ≡ letterIn (wordOf cell) ⌝ }
 {
     match cell {
-        D0 => NO_POINT,
         D1 => 0x61, // 1 A a ª
-        D2 => NO_POINT,
         D12 => 0x62, // 2 B b
-        D3 => NO_POINT,
-        D13 => NO_POINT,
-        D23 => NO_POINT,
-        D123 => NO_POINT,
-        D4 => NO_POINT,
+        D13 => 0x6b, // K k
+        D123 => 0x6c, // L l
         D14 => 0x63, // 3 C c
         D24 => 0x69, // 9 I i
         D124 => 0x66, // 6 F f
-        D34 => NO_POINT,
-        D134 => NO_POINT,
-        D234 => NO_POINT,
-        D1234 => NO_POINT,
-        D5 => NO_POINT,
+        D34 => 0xed, // Í í
+        D134 => 0x6d, // M m
+        D234 => 0x73, // S s
+        D1234 => 0x70, // P p
         D15 => 0x65, // 5 E e
-        D25 => NO_POINT,
         D125 => 0x68, // 8 H h
-        D35 => NO_POINT,
-        D135 => NO_POINT,
-        D235 => NO_POINT,
-        D1235 => NO_POINT,
-        D45 => NO_POINT,
+        D135 => 0x6f, // O o º
+        D1235 => 0x72, // R r
         D145 => 0x64, // 4 D d
         D245 => 0x6a, // 0 J j
         D1245 => 0x67, // 7 G g
-        D345 => NO_POINT,
-        D1345 => NO_POINT,
-        D2345 => NO_POINT,
-        D12345 => NO_POINT,
-        D6 => NO_POINT,
-        D16 => NO_POINT,
-        D26 => NO_POINT,
-        D126 => NO_POINT,
-        D36 => NO_POINT,
-        D136 => NO_POINT,
-        D236 => NO_POINT,
-        D1236 => NO_POINT,
-        D46 => NO_POINT,
-        D146 => NO_POINT,
-        D246 => NO_POINT,
-        D1246 => NO_POINT,
-        D346 => NO_POINT,
-        D1346 => NO_POINT,
-        D2346 => NO_POINT,
-        D12346 => NO_POINT,
-        D56 => NO_POINT,
-        D156 => NO_POINT,
-        D256 => NO_POINT,
-        D1256 => NO_POINT,
-        D356 => NO_POINT,
-        D1356 => NO_POINT,
-        D2356 => NO_POINT,
-        D12356 => NO_POINT,
-        D456 => NO_POINT,
-        D1456 => NO_POINT,
-        D2456 => NO_POINT,
-        D12456 => NO_POINT,
-        D3456 => NO_POINT,
-        D13456 => NO_POINT,
-        D23456 => NO_POINT,
-        D123456 => NO_POINT,
+        D1345 => 0x6e, // N n
+        D2345 => 0x74, // T t
+        D12345 => 0x71, // Q q
+        D136 => 0x75, // U u
+        D1236 => 0x76, // V v
+        D346 => 0xf3, // Ó ó
+        D1346 => 0x78, // X x
+        D2346 => 0xe9, // É é
+        D1256 => 0xfc, // Ü ü
+        D1356 => 0x7a, // Z z
+        D12356 => 0xe1, // Á á
+        D2456 => 0x77, // W w
+        D12456 => 0xf1, // Ñ ñ
+        D13456 => 0x79, // Y y
+        D23456 => 0xfa, // Ú ú
+        _ => NO_POINT,
+    }
+}
+
+// What a cell is inside a number: its digit, the full stop or the comma; or NO_POINT. (Of the digits alone the compiler would make jumps, and no table: they are too far apart.)
+pub fn inside_number(cell: u8) -> u32
+    ensures { λ r. ⌜ r ≡ insideIn (wordOf cell) ⌝ }
+{
+    match cell {
+        D1 => 0x31, // 1 A a ª
+        D2 => 0x2c, // , 1
+        D12 => 0x32, // 2 B b
+        D3 => 0x2e, // .
+        D14 => 0x33, // 3 C c
+        D24 => 0x39, // 9 I i
+        D124 => 0x36, // 6 F f
+        D15 => 0x35, // 5 E e
+        D125 => 0x38, // 8 H h
+        D145 => 0x34, // 4 D d
+        D245 => 0x30, // 0 J j
+        D1245 => 0x37, // 7 G g
         _ => NO_POINT,
     }
 }

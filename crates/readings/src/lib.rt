@@ -176,6 +176,9 @@ const TABLE_ROW: usize = 16;
 // No code point.
 pub const NO_POINT: u32 = 0;
 
+// How many kinds of pair marks the look-ups have room for.
+const MARK_PLACES: usize = 8;
+
 // The kind of ‘ and ’, whose cells are 6-236.
 pub const INNER_QUOTES: usize = 3;
 
@@ -235,15 +238,19 @@ pub fn deed_of(mode: usize, class: usize) -> usize
     table::deed_at(mode % MODE_PLACES * TABLE_ROW + class % TABLE_ROW)
 }
 
-// The opener and the closer of a kind; the kinds have the numbers of the rules (crates/rules/specs/Pairs.antt).
+// The opener and the closer of a kind; the kinds have the numbers of the rules (crates/rules/specs/Pairs.antt). (A kind is below 8, so that the remainder is the
+// kind. Those that are none yet are named, so that the compiler makes a table of it and asks nothing first.)
 pub fn opener_of(kind: usize) -> u32
     ensures { λ r. ⌜ r ≡ openerOf kind ⌝ }
 {
-    match kind {
+    match kind % MARK_PLACES {
         0 => 0xbf, // ¿
         1 => 0xa1, // ¡
         2 => 0xab, // «
         INNER_QUOTES => 0x2018, // ‘
+        5 => NO_POINT,
+        6 => NO_POINT,
+        7 => NO_POINT,
         _ => 0xe000, // emphasis opens
     }
 }
@@ -251,11 +258,14 @@ pub fn opener_of(kind: usize) -> u32
 pub fn closer_of(kind: usize) -> u32
     ensures { λ r. ⌜ r ≡ closerOf kind ⌝ }
 {
-    match kind {
+    match kind % MARK_PLACES {
         0 => 0x3f, // ?
         1 => 0x21, // !
         2 => 0xbb, // »
         INNER_QUOTES => 0x2019, // ’
+        5 => NO_POINT,
+        6 => NO_POINT,
+        7 => NO_POINT,
         _ => 0xe001, // emphasis closes
     }
 }

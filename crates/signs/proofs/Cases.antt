@@ -12,19 +12,18 @@ use lib.ListN.{length, getD, List·getD-eq-default}
 use borrow.Author.Tests.{eq-eqb, ne-eqb, lt-ltb, le-ltb, le-leb, lt-leb, leb-true, not-true}
 use Rattle.rules.specs.Cells.{Row, dots, lastCell}
 use Rattle.rules.specs.Pairs.{kinds}
-use Rattle.rules.proofs.Finite.{below, at-below, beq-same, and-false, le-or-lt, implies, T-of-eqb}
+use Rattle.rules.proofs.Finite.{below, at-below, beq-same, and-false, le-or-lt, implies}
 use Rattle.rules.proofs.Machine.{at-rest}
 use Rattle.entries.specs.Chosen.{choose}
 use Rattle.entries.proofs.Keys.{among, Rest, keysOf, chosen-rest, rest-none}
-use Rattle.entries.proofs.Places.{upto, none-below}
 use Rattle.pairs.specs.Opened.{isOpen}
 use Rattle.readings.specs.Modes as mode
 use Rattle.readings.specs.Modes.{modeOf, modeCount}
 use Rattle.readings.specs.Acts as act
 use Rattle.readings.specs.Deeds.{deeds}
-use Rattle.readings.specs.Fields.{deedOf, classIn, pointIn, capitalIn, figureIn, lowerIn, letterIn, kindIn, thenIn, usualIn, runPoint, noCell, cellOf}
+use Rattle.readings.specs.Fields.{deedOf, classIn, pointIn, capitalIn, figureIn, lowerIn, letterIn, insideIn, kindIn, thenIn, usualIn, runPoint, noCell, cellOf}
 use Rattle.readings.specs.Words.{words, lettersAlone, signsAlone, wordOf, twoOf}
-use Rattle.readings.specs.Readings.{noPoint, Reading, reads, aMark, one, usualBy, onceList, digitCell, capitalModes, capitalLetter, capitalBy, numberBy, percentBy, innerQuotes, longerBy, prefixBy, askList, askedBy, readingOf, byWord, openerOf, closerOf, markStep, stepOf, stepAt}
+use Rattle.readings.specs.Readings.{noPoint, Reading, reads, one, usualBy, onceList, digitCell, capitalModes, capitalBy, numberBy, percentBy, innerQuotes, longerBy, prefixBy, askList, askedBy, readingOf, byWord, openerOf, closerOf, markStep, stepOf, stepAt}
 use Rattle.readings.specs.Readings as reading
 use Rattle.signs.specs.Among.{digitCells, lowerCells, cellAmong, lowerCell, aloneCell}
 use Rattle.signs.specs.Runs.{noRun, runOf, homeOf, Quick, InRun}
@@ -135,6 +134,26 @@ has-none n t = go (eqb n noPoint) refl t
     go true e t = eqb→eq n noPoint (subst T (sym e) tt)
     go false e t = absurd (true≢false t)
 
+-- WHAT HOLDS OF EACH CELL that has a field, if it is so of the cells, one by one
+has-field : (g : ℕ → ℕ) → g 0 ≡ 0 → (f : ℕ → Bool) → T (below (λ c. eqb (g (wordOf c)) noPoint || f c) noCell) → (c : ℕ) → not (eqb (g (wordOf c)) noPoint) ≡ true
+    → T (f c)
+has-field g z f t c n =
+    ⊎-elim (λ l. subst (λ (b : Bool). T (b || f c)) (not-true (eqb (g (wordOf c)) noPoint) n) (at-below (λ c. eqb (g (wordOf c)) noPoint || f c) noCell t c l))
+    (λ l. absurd (has-some (g (wordOf c)) n (ap g (past-words c l) ∙ z))) (le-or-lt (suc c) noCell)
+
+-- a digit is what it is inside a number; a lower digit is the digit of half its cell; the cell of a digit is a letter
+pub inside-digit : (w : ℕ) → not (eqb (figureIn w) noPoint) ≡ true → insideIn w ≡ figureIn w
+inside-digit w n = rw (not-true (eqb (figureIn w) noPoint) n)
+
+pub inside-lowered : (c : ℕ) → lowerCell c ≡ true → insideIn (wordOf (c / 2)) ≡ lowerIn (wordOf c)
+unfolding words
+inside-lowered c n =
+    eqb→eq (insideIn (wordOf (c / 2))) (lowerIn (wordOf c)) (has-field lowerIn refl (λ c. eqb (insideIn (wordOf (c / 2))) (lowerIn (wordOf c))) tt c n)
+
+digit-letter : (c : ℕ) → digitCell c ≡ true → letterIn (wordOf c) ≡ pointIn (wordOf c)
+unfolding words
+digit-letter c n = eqb→eq (letterIn (wordOf c)) (pointIn (wordOf c)) (has-field figureIn refl (λ c. eqb (letterIn (wordOf c)) (pointIn (wordOf c))) tt c n)
+
 -- AFTER 3456, of the word of the second cell
 module _ (at o w : ℕ) where
   pub number-figure : not (eqb (figureIn w) noPoint) ≡ true → (f : ℕ) → f ≡ figureIn w → variant.Sign noPoint f (at + 2) mode.num o ≡ stepOf at o (numberBy w)
@@ -215,9 +234,7 @@ module _ (at o d x y z : ℕ) where
   pub separated-letter : d ≡ act.separates → digitCell y ≡ true → (p : ℕ) → p ≡ letterIn (wordOf y)
       → variant.Sign noPoint p (at + 2) mode.mixed o ≡ stepOf at o (prefixBy d x y z)
   unfolding prefixBy
-  separated-letter q t p h =
-      ap (λ (n : ℕ). variant.Sign noPoint n (at + 2) mode.mixed o) (h ∙ ap (λ (b : Bool). cond b 0 (pointIn (wordOf y))) (not-true (eqb (figureIn (wordOf y)) noPoint) t))
-      ∙ sym (rw (eq-eqb d act.separates q, t))
+  separated-letter q t p h = ap (λ (n : ℕ). variant.Sign noPoint n (at + 2) mode.mixed o) (h ∙ digit-letter y t) ∙ sym (rw (eq-eqb d act.separates q, t))
 
   -- what is known once it is no separated letter
   abbrev pub Longer : Type 0
@@ -444,22 +461,6 @@ kind-known row at m w l e u q =
     ltb→lt (kindIn (wordOf x)) kinds
     (implies (usualIn (wordOf x) m && eqb (pointIn (wordOf x)) noPoint) (ltb (kindIn (wordOf x)) kinds) (subst T (sym f) tt) t) in
     omega (arith, g, ap kindIn e)
-
--- a byte that is no cell begins no sign
-none-high : T (below (λ m. not (usualIn 0 m) && eqb (deedOf m (classIn 0)) act.noSign) modeCount)
-unfolding deeds
-none-high = tt
-
-pub no-cell : (row : Row) (at m o : ℕ) → m < modeCount → at < length row → lastCell < getD row at 0 → stepAt row at m o ≡ variant.Nothing
-unfolding words
-no-cell row at m o l h k = go (usualIn 0 m) refl (deedOf m (classIn 0)) refl (at-below (λ m. not (usualIn 0 m) && eqb (deedOf m (classIn 0)) act.noSign) modeCount none-high m l)
-  where
-    word-is : 0 ≡ wordOf (cellOf row at)
-    word-is = ap wordOf (cell-high row at h k)
-
-    go : (u : Bool) → usualIn 0 m ≡ u → (d : ℕ) → deedOf m (classIn 0) ≡ d → T (not u && eqb d act.noSign) → stepAt row at m o ≡ variant.Nothing
-    go true e d f t = absurd t
-    go false e d f t = sym (told-none row at m o 0 word-is e d (sym f) (eqb→eq d act.noSign t))
 
 -- QUICK READINGS. In a run: what each cell is is what the table says, and it leaves the run's own mode
 both : (a b : Bool) → T (a && b) → T a × T b

@@ -79,7 +79,7 @@ use readings::point_in;
 use readings::then_in;
 ghost use mathlib.Core.Bool.{true, false};
 ghost use mathlib.Core.Path.{_≡_};
-ghost use Prim.Native.Nat.{ℕ, _+_, _<_, _≤_};
+ghost use Prim.Native.Nat.{_+_, _<_, _≤_};
 ghost use lib.ListN.{length, getD};
 ghost use Rattle.rules.specs.Cells.{lastCell};
 ghost use Rattle.rules.specs.Pairs.{kinds};
@@ -127,6 +127,9 @@ const LOWER_CELLS: u64 = (1 << D2)
     + (1 << D236)
     + (1 << D35)
     + (1 << D356);
+
+// A lower digit is its digit with every dot a row lower, which counts twice as much: 14 counts 9, and 25 counts 18.
+const LOWERED: u8 = 2;
 
 // No cell: past the row's end, or where the byte is none.
 const NO_CELL: u8 = 64;
@@ -287,17 +290,17 @@ fn capital(row: &[u8], at: usize, deed: usize, opened: usize) -> Step
     }
 }
 
-// After 3456: a digit begins a number, a lower digit an ordinal or a fraction.
+// After 3456: a digit begins a number, a lower digit an ordinal or a fraction. (Both digits come from one table: what the processor cannot foresee is no jump.)
 fn number(row: &[u8], at: usize, opened: usize) -> Step
     requires { ⌜ (length (now row) ≤ longestRow) × (at < length (now row)) ⌝ }
     ensures { λ r. ⌜ r ≡ stepOf at opened (numberBy (wordOf (cellOf (now (row .entry)) (at + 1)))) ⌝ }
 {
     let second = cell_at(row, at + 1);
     if is_digit(second) {
-        return sign(cells::figure_of(second), at + 2, NUM, opened);
+        return sign(cells::inside_number(second), at + 2, NUM, opened);
     }
     if is_lower(second) {
-        return sign(cells::lower_of(second), at + 2, LOW, opened);
+        return sign(cells::inside_number(second / LOWERED), at + 2, LOW, opened);
     }
     Step::Nothing
 }

@@ -8,7 +8,6 @@ use readings::MIXED;
 use readings::NO_POINT;
 use readings::OWING;
 use readings::Step;
-use signs::LAST_CELL;
 use signs::NO_RUN;
 ghost use mathlib.Core.List.{List};
 ghost use mathlib.Core.Path.{_≡_};
@@ -231,11 +230,7 @@ pub fn walk(
     let mut count: usize = counted;
     let mut at: usize = from;
     while at < stop {
-        let cell = row[at];
-        if LAST_CELL < cell {
-            return Walked::Nowhere(at);
-        }
-        let word = signs::word_of(cell);
+        let word = signs::word_of(row[at]);
         if signs::is_usual(word, mode) {
             let Step::Sign {
                 lead,

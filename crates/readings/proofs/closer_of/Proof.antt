@@ -1,7 +1,11 @@
--- `closer_of`: each arm is that of its kind. Assumes nothing.
-use mathlib.Core.Path.{sym}
-use Rattle.entries.proofs.Keys.{chosen-rest}
-use Rattle.readings.specs.Readings.{closers, closerOf}
+-- `closer_of`: each arm is that of its kind, and the last that of the one kind that is left. Assumes nothing.
+use mathlib.Core.Path.{sym, ap}
+use mathlib.Core.List.{[], _∷_}
+use Prim.Native.Nat.{ℕ, _%_}
+use native.Mathlib.Omega.{arith}
+use lib.ListN.{getD}
+use Rattle.readings.specs.Readings.{noPoint, closers, closerOf}
+use Rattle.readings.proofs.Words.{one-left}
 use Rattle.readings.proofs.closer_of.Statement.{statement}
 use Rattle.readings.proofs.closer_of.Tie as tie
 use Rattle.readings.proofs.closer_of.Reads as reads
@@ -25,7 +29,22 @@ returns-4 c = rw (c .match .keys4)
 
 returns-5 : tie.Need-returns-5
 unfolding closerOf
-returns-5 c = sym (chosen-rest closers (c .before .args .kind) 57345 (c .match .rest))
+returns-5 c = rw (c .match .keys5)
+
+returns-6 : tie.Need-returns-6
+unfolding closerOf
+returns-6 c = rw (c .match .keys6)
+
+returns-7 : tie.Need-returns-7
+unfolding closerOf
+returns-7 c = rw (c .match .keys7)
+
+returns-8 : tie.Need-returns-8
+unfolding closerOf
+returns-8 c =
+    sym
+    (ap (λ (n : ℕ). getD closers n noPoint)
+    (one-left 8 4 (0 ∷ 1 ∷ 2 ∷ 3 ∷ 5 ∷ 6 ∷ 7 ∷ []) tt (c .before .args .kind % 8) (omega arith) (c .match .rest)))
 
 pub closer-of-spec : {M : Type 1} → statement M
-closer-of-spec = tie.close (tie.spec returns returns-2 returns-3 returns-4 returns-5)
+closer-of-spec = tie.close (tie.spec returns returns-2 returns-3 returns-4 returns-5 returns-6 returns-7 returns-8)

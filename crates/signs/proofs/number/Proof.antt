@@ -1,11 +1,11 @@
 -- `number`: a digit, a lower digit, or neither after 3456. Assumes nothing.
 use mathlib.Core.Path.{_≡_, sym, ap, _∙_}
-use Prim.Native.Nat.{ℕ, _+_}
-use Rattle.readings.specs.Fields.{figureIn, lowerIn, cellOf}
+use Prim.Native.Nat.{ℕ, _+_, _/_}
+use Rattle.readings.specs.Fields.{insideIn, cellOf}
 use Rattle.readings.specs.Words.{wordOf}
 use Rattle.readings.specs.Readings.{digitCell}
 use Rattle.signs.specs.Among.{lowerCell}
-use Rattle.signs.proofs.Cases.{number-figure, number-lower, number-none}
+use Rattle.signs.proofs.Cases.{inside-digit, inside-lowered, number-figure, number-lower, number-none}
 use borrow.Author.Needs.{needs}
 use Rattle.signs.proofs.number.Statement.{statement}
 use Rattle.signs.proofs.number.Tie as tie
@@ -14,8 +14,7 @@ use Rattle.signs.proofs.number.Lts as lts
 use Rattle.signs.proofs.cell_at.Reads as cell-at-reads
 use Rattle.signs.proofs.is_digit.Reads as is-digit-reads
 use Rattle.signs.proofs.is_lower.Reads as is-lower-reads
-use Rattle.readings.proofs.cells.figure_of.Reads as figure-of-reads
-use Rattle.readings.proofs.cells.lower_of.Reads as lower-of-reads
+use Rattle.readings.proofs.cells.inside_number.Reads as inside-number-reads
 use Rattle.signs.proofs.sign.Reads as sign-reads
 
 -- the second cell, and whether it has a digit
@@ -50,8 +49,8 @@ cell-at-requires c κs = search needs
 is-digit-requires : tie.Need-is-digit-requires
 is-digit-requires c κs = search needs
 
-figure-of-requires : tie.Need-figure-of-requires
-figure-of-requires c κs = search needs
+inside-number-requires : tie.Need-inside-number-requires
+inside-number-requires c κs = search needs
 
 add-sign : tie.Need-add-sign
 add-sign c = search needs
@@ -64,15 +63,16 @@ returns c =
     let f = c .before in
     let k = f .before .before in
     let s = of-digit k in
+    let has = sym (digit-is k) ∙ f .before .if1 .taken in
     c .sign .ensures
-    ∙ number-figure (s .args .at) (s .args .opened) (wordOf (Y s)) (sym (digit-is k) ∙ f .before .if1 .taken) (f .figure-of .result)
-    (f .figure-of .ensures ∙ ap (λ (n : ℕ). figureIn (wordOf n)) (k .before .cell-at .ensures))
+    ∙ number-figure (s .args .at) (s .args .opened) (wordOf (Y s)) has (f .inside-number .result)
+    (f .inside-number .ensures ∙ ap (λ (n : ℕ). insideIn (wordOf n)) (k .before .cell-at .ensures) ∙ inside-digit (wordOf (Y s)) has)
 
 is-lower-requires : tie.Need-is-lower-requires
 is-lower-requires c κs = search needs
 
-lower-of-requires : tie.Need-lower-of-requires
-lower-of-requires c κs = search needs
+inside-number-requires-2 : tie.Need-inside-number-requires-2
+inside-number-requires-2 c κs = search needs
 
 add-sign-2 : tie.Need-add-sign-2
 add-sign-2 c = search needs
@@ -86,9 +86,10 @@ returns-2 c =
     let l = f .before .before in
     let k = of-lower l in
     let s = of-digit k in
+    let has = sym (lower-is l) ∙ f .before .if2 .taken in
     c .sign2 .ensures
-    ∙ number-lower (s .args .at) (s .args .opened) (wordOf (Y s)) (sym (digit-is k) ∙ l .before .if1 .left) (sym (lower-is l) ∙ f .before .if2 .taken) (f .lower-of .result)
-    (f .lower-of .ensures ∙ ap (λ (n : ℕ). lowerIn (wordOf n)) (k .before .cell-at .ensures))
+    ∙ number-lower (s .args .at) (s .args .opened) (wordOf (Y s)) (sym (digit-is k) ∙ l .before .if1 .left) has (f .inside-number2 .result)
+    (f .inside-number2 .ensures ∙ ap (λ (n : ℕ). insideIn (wordOf (n / 2))) (k .before .cell-at .ensures) ∙ inside-lowered (Y s) has)
 
 returns-3 : tie.Need-returns-3
 returns-3 c =
@@ -104,12 +105,12 @@ number-spec =
     add-cell-at
     cell-at-requires
     is-digit-requires
-    figure-of-requires
+    inside-number-requires
     add-sign
     sign-requires
     returns
     is-lower-requires
-    lower-of-requires
+    inside-number-requires-2
     add-sign-2
     sign-requires-2
     returns-2

@@ -12,7 +12,7 @@ use Rattle.readings.specs.Words.{wordOf}
 use Rattle.readings.specs.Readings.{stepAt}
 use Rattle.readings.specs.Left.{left}
 use Rattle.readings.specs.declared.Step.the-variants.{Nothing}
-use Rattle.signs.proofs.Cases.{word-there, as-usual, kind-known, no-cell}
+use Rattle.signs.proofs.Cases.{word-there, as-usual, kind-known}
 use Rattle.readings.proofs.Turning.{Turn, turn-of, none-left}
 use Rattle.walks.proofs.Walking.{Mid, mid-start, mid-few, mid-put, mid-on, mid-more, mid-nowhere, mid-end, runs-somewhere, runs-forward}
 use Rattle.walks.proofs.walk.Statement.{statement}
@@ -53,7 +53,7 @@ abbrev W : Type 0
 W = tie.After-is-usual Inv-loop μ-loop
 
 abbrev in-w : W → I
-in-w w = w .before .before .before .before
+in-w w = w .before .before .before
 
 abbrev at-w : W → L
 at-w w = in-w w .before
@@ -110,7 +110,7 @@ as-read u =
     let w = u .before .before in
     let l = at-w w in
     u .usual .ensures
-    ∙ as-usual (row l) (l .loop .at) (l .loop .mode) (l .loop .opened) (w .before .word-of .result) (word-is w) (sym (w .is-usual .ensures) ∙ u .before .if2 .taken)
+    ∙ as-usual (row l) (l .loop .at) (l .loop .mode) (l .loop .opened) (w .before .word-of .result) (word-is w) (sym (w .is-usual .ensures) ∙ u .before .if1 .taken)
 
 turn : (c : K) → let l = at-w (of-k c) in
     Turn (row l) (l .loop .at) (l .loop .mode) (l .loop .opened) (lead c) (point c) (next c) (mode-after c) (opened-after c)
@@ -139,17 +139,8 @@ loop-holds c =
     let s = c .before .before in
     mid-start (s .args .row .now) (s .args .stop) (s .args .from) (s .args .begun) (s .args .unclosed) (s .args .counted) (s .args .text .now) (s .pre .1) (s .pre .3) (s .pre .4)
 
-shared-slice-read-cell : tie.Need-shared-slice-read-cell Inv-loop μ-loop
-shared-slice-read-cell c = inside (c .before)
-
-same-length : tie.Need-same-length Inv-loop μ-loop
-same-length c = c .before .before .before .loop .inv .wrote .0
-
-returns : tie.Need-returns Inv-loop μ-loop
-returns c =
-    let i = c .before .before in
-    let l = i .before in
-    mid-nowhere (l .loop .inv) (stuck i (no-cell (row l) (l .loop .at) (l .loop .mode) (l .loop .opened) (l .loop .inv .leads .mode) (inside i) (c .if1 .taken)))
+shared-slice-read-word-of : tie.Need-shared-slice-read-word-of Inv-loop μ-loop
+shared-slice-read-word-of c = inside (c .before)
 
 word-of-requires : tie.Need-word-of-requires Inv-loop μ-loop
 word-of-requires c κs = search needs
@@ -163,7 +154,7 @@ usual-requires c κs =
     let l = at-w w in (
       omega (arith, inside (in-w w), start l .pre .0),
       l .loop .inv .leads .opens,
-      kind-known (row l) (l .loop .at) (l .loop .mode) (w .before .word-of .result) (l .loop .inv .leads .mode) (word-is w) (sym (w .is-usual .ensures) ∙ c .if2 .taken),
+      kind-known (row l) (l .loop .at) (l .loop .mode) (w .before .word-of .result) (l .loop .inv .leads .mode) (word-is w) (sym (w .is-usual .ensures) ∙ c .if1 .taken),
     )
 
 enum-known-lead : tie.Need-enum-known-lead Inv-loop μ-loop
@@ -172,11 +163,11 @@ enum-known-lead c = search needs
 enum-told : tie.Need-enum-told Inv-loop μ-loop
 enum-told c = search needs
 
-same-length-2 : tie.Need-same-length-2 Inv-loop μ-loop
-same-length-2 c = at-w (c .before .before .before .before) .loop .inv .wrote .0
+same-length : tie.Need-same-length Inv-loop μ-loop
+same-length c = at-w (c .before .before .before .before) .loop .inv .wrote .0
 
-returns-2 : tie.Need-returns-2 Inv-loop μ-loop
-returns-2 c =
+returns : tie.Need-returns Inv-loop μ-loop
+returns c =
     let u = c .before .before in
     let w = u .before .before in
     mid-nowhere (at-w w .loop .inv) (stuck (in-w w) (sym (as-read u) ∙ c .enum-told .given .1))
@@ -197,7 +188,7 @@ sign-at-requires : tie.Need-sign-at-requires Inv-loop μ-loop
 sign-at-requires c κs =
     let w = c .before in
     let l = at-w w in
-    (start l .pre .0, inside (in-w w), l .loop .inv .leads .opens, word-is w, sym (w .is-usual .ensures) ∙ c .if2 .left)
+    (start l .pre .0, inside (in-w w), l .loop .inv .leads .opens, word-is w, sym (w .is-usual .ensures) ∙ c .if1 .left)
 
 enum-known-lead-2 : tie.Need-enum-known-lead-2 Inv-loop μ-loop
 enum-known-lead-2 c = search needs
@@ -205,11 +196,11 @@ enum-known-lead-2 c = search needs
 enum-told-2 : tie.Need-enum-told-2 Inv-loop μ-loop
 enum-told-2 c = search needs
 
-same-length-3 : tie.Need-same-length-3 Inv-loop μ-loop
-same-length-3 c = at-w (c .before .before .before .before) .loop .inv .wrote .0
+same-length-2 : tie.Need-same-length-2 Inv-loop μ-loop
+same-length-2 c = at-w (c .before .before .before .before) .loop .inv .wrote .0
 
-returns-3 : tie.Need-returns-3 Inv-loop μ-loop
-returns-3 c =
+returns-2 : tie.Need-returns-2 Inv-loop μ-loop
+returns-2 c =
     let a = c .before .before in
     let w = a .before .before in
     mid-nowhere (at-w w .loop .inv) (stuck (in-w w) (sym (a .sign-at .ensures) ∙ c .enum-told2 .given .1))
@@ -246,11 +237,11 @@ somewhere c =
     let l = at-w (of-j k) in
     runs-somewhere (row l) (start l .args .stop) (next2 k) (mode-after2 k) (opened-after2 k) _ _ (a .alike .ensures) (c .enum-told3 .given .1)
 
-same-length-4 : tie.Need-same-length-4 Inv-loop μ-loop
-same-length-4 c = absurd (somewhere c)
+same-length-3 : tie.Need-same-length-3 Inv-loop μ-loop
+same-length-3 c = absurd (somewhere c)
 
-returns-4 : tie.Need-returns-4 Inv-loop μ-loop
-returns-4 c = absurd (somewhere c)
+returns-3 : tie.Need-returns-3 Inv-loop μ-loop
+returns-3 c = absurd (somewhere c)
 
 abbrev A : Type 0
 A = tie.After-known-told3 Inv-loop μ-loop
@@ -287,11 +278,11 @@ loop-again-3 c =
     let k = j-of p in
     mid-on (at-w (of-j k) .loop .inv) (turn2 k) (in-w (of-j k) .loop-test .taken) (p .put2 .ensures)
 
-same-length-5 : tie.Need-same-length-5 Inv-loop μ-loop
-same-length-5 c = c .before .loop .inv .wrote .0
+same-length-4 : tie.Need-same-length-4 Inv-loop μ-loop
+same-length-4 c = c .before .loop .inv .wrote .0
 
-returns-5 : tie.Need-returns-5 Inv-loop μ-loop
-returns-5 c = mid-end (c .before .loop .inv) (c .loop-test .left)
+returns-4 : tie.Need-returns-4 Inv-loop μ-loop
+returns-4 c = mid-end (c .before .loop .inv) (c .loop-test .left)
 
 pub walk-spec : {M : Type 1} → statement M
 walk-spec =
@@ -300,33 +291,31 @@ walk-spec =
     Inv-loop
     μ-loop
     loop-holds
-    shared-slice-read-cell
-    same-length
-    returns
+    shared-slice-read-word-of
     word-of-requires
     is-usual-requires
     usual-requires
     enum-known-lead
     enum-told
-    same-length-2
-    returns-2
+    same-length
+    returns
     put-requires
     loop-less
     loop-again
     sign-at-requires
     enum-known-lead-2
     enum-told-2
-    same-length-3
-    returns-3
+    same-length-2
+    returns-2
     put-requires-2
     alike-requires
     enum-known-at-last
     enum-told-3
-    same-length-4
-    returns-4
+    same-length-3
+    returns-3
     loop-less-2
     loop-again-2
     loop-less-3
     loop-again-3
-    same-length-5
-    returns-5)
+    same-length-4
+    returns-4)
