@@ -1,5 +1,6 @@
-//! What both directions are timed on: texts in normal print, each with its row. A new one is a line here; what only one direction has is in
-//! `transcribing` or in `reading`.
+//! What both directions are timed on: texts in normal print, each with its row. A new one is a line here, or in `drawn` if its pieces are drawn
+//! by lot; what only one direction has is in `transcribing` or in `reading`.
+use crate::drawn::drawn;
 use crate::prose::{prose, Random};
 use crate::text::{capitals_then_small, Text};
 
@@ -29,7 +30,7 @@ pub fn lines<L>(count: usize, mut line: impl FnMut() -> L) -> Vec<L> {
 
 /// The texts of both directions.
 pub fn normal() -> Vec<Data> {
-    [of_prose(), long(), short()].into_iter().flatten().collect()
+    [of_prose(), drawn(), long(), short()].into_iter().flatten().collect()
 }
 
 /// Prose, in lines of three lengths.

@@ -1,6 +1,7 @@
 //! The proved library against plain Rust by the same rules, on one core, in one run: transcribing, in nanoseconds for each code point of
 //! print; reading, in nanoseconds for each cell; and steps. Where liblouis is installed, it is timed beside the library.
 mod cases;
+mod drawn;
 mod duel;
 mod liblouis;
 mod prose;

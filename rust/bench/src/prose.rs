@@ -22,14 +22,15 @@ impl Random {
     }
 
     /// A number below `bound`.
-    fn below(&mut self, bound: usize) -> usize {
+    pub fn below(&mut self, bound: usize) -> usize {
         self.0 ^= self.0 << 13;
         self.0 ^= self.0 >> 7;
         self.0 ^= self.0 << 17;
         (self.0 % bound as u64) as usize
     }
 
-    fn one_of(&mut self, list: &[&'static str]) -> &'static str {
+    /// One of these.
+    pub fn one_of(&mut self, list: &[&'static str]) -> &'static str {
         list[self.below(list.len())]
     }
 }

@@ -1,6 +1,6 @@
-//! Print with the cells that it must give, put together piece by piece. Only what the bench needs: small letters, words with a capital in
-//! front, numbers, and signs of one cell. It is no transcriber: whoever calls says what each piece is. Where the print is normal, it is the
-//! text that its cells must give.
+//! Print with the cells that it must give, put together piece by piece. Only what the bench needs: words, numbers, ordinals, fractions,
+//! and signs. It is no transcriber: whoever calls says what each piece is. Where the print is normal, it is the text that its cells must
+//! give.
 
 /// Print and its cells.
 #[derive(Clone, Default)]
@@ -21,9 +21,16 @@ const LETTERS: &str = "abcdefghijklmnñopqrstuvwxyzáéíóúü";
 
 const LETTER_CELLS: &str = "⠁⠃⠉⠙⠑⠋⠛⠓⠊⠚⠅⠇⠍⠝⠻⠕⠏⠟⠗⠎⠞⠥⠧⠺⠭⠽⠵⠷⠮⠌⠬⠾⠳";
 
+/// Dot 5: a letter a to j follows a number.
+const SEPARATOR: char = '⠐';
+
 const NUMBER_SIGNS: &str = "1234567890.,";
 
 const NUMBER_CELLS: &str = "⠁⠃⠉⠙⠑⠋⠛⠓⠊⠚⠄⠂";
+
+const DIGITS: &str = "1234567890";
+
+const LOWER_CELLS: &str = "⠂⠆⠒⠲⠢⠖⠶⠦⠔⠴";
 
 const SIGNS: &str = " .,¿?¡!«»“”";
 
@@ -72,6 +79,45 @@ impl Text {
         }
     }
 
+    /// Adds a word with capitals where `is_capital` says so of its letters, one by one.
+    pub fn word_with_capitals(&mut self, word: &str, is_capital: &[bool]) {
+        let alone = word.chars().count() == 1;
+        if !alone && is_capital.iter().all(|&big| big) {
+            self.put(&word.to_uppercase(), &format!("{CAPITAL}{CAPITAL}"));
+            word.chars().for_each(|letter| self.put("", &cell_of(letter, LETTERS, LETTER_CELLS).to_string()));
+        } else {
+            word.chars().zip(is_capital).for_each(|(letter, &big)| self.word(&letter.to_string(), big));
+        }
+    }
+
+    /// Adds a number and a small letter directly behind it.
+    pub fn number_and_letter(&mut self, number: &str, letter: char) {
+        self.number(number);
+        if ('a'..='j').contains(&letter) {
+            self.put("", &SEPARATOR.to_string());
+        }
+        self.word(&letter.to_string(), false);
+    }
+
+    /// Adds an ordinal; `mark` is º or ª.
+    pub fn ordinal(&mut self, digits: &str, mark: char) {
+        self.lower(digits);
+        self.put(&format!(".{mark}"), if mark == 'º' { "⠕" } else { "⠁" });
+    }
+
+    /// Adds a fraction. The denominator is not 1.
+    pub fn fraction(&mut self, above: &str, below: &str) {
+        self.lower(above);
+        self.put(&format!("\u{2044}{below}"), "");
+        below.chars().for_each(|digit| self.put("", &cell_of(digit, NUMBER_SIGNS, NUMBER_CELLS).to_string()));
+    }
+
+    /// Adds digits that are written as lower ones.
+    fn lower(&mut self, digits: &str) {
+        self.put(digits, &NUMBER.to_string());
+        digits.chars().for_each(|digit| self.put("", &cell_of(digit, DIGITS, LOWER_CELLS).to_string()));
+    }
+
     /// Adds a number, which may have points or commas between its digits.
     pub fn number(&mut self, number: &str) {
         self.put(number, &NUMBER.to_string());
@@ -81,7 +127,7 @@ impl Text {
     }
 
     /// Adds print, and cells as Unicode braille patterns.
-    fn put(&mut self, print: &str, cells: &str) {
+    pub fn put(&mut self, print: &str, cells: &str) {
         self.print.extend(print.chars().map(u32::from));
         self.cells.extend(cells.chars().map(|pattern| (u32::from(pattern) - 0x2800) as u8));
     }
