@@ -290,7 +290,8 @@ fn capital(row: &[u8], at: usize, deed: usize, opened: usize) -> Step
     }
 }
 
-// After 3456: a digit begins a number, a lower digit an ordinal or a fraction. (Both digits come from one table: what the processor cannot foresee is no jump.)
+// After 3456: a digit begins a number, a lower digit an ordinal or a fraction. (Both are looked up in one table, so that there is no jump for the
+// processor to foresee.)
 fn number(row: &[u8], at: usize, opened: usize) -> Step
     requires { ⌜ (length (now row) ≤ longestRow) × (at < length (now row)) ⌝ }
     ensures { λ r. ⌜ r ≡ stepOf at opened (numberBy (wordOf (cellOf (now (row .entry)) (at + 1)))) ⌝ }
