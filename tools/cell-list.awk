@@ -4,15 +4,16 @@
 #     3 12 B_TO_J 0x62 0x42 0x32 none none 0x32 b B 2
 #     38 236 MARK_OR_LOW none none none 0x38 2 none « » 8
 #
-# and behind them, after `two`, each sign of two cells whose first is none by itself, by its code point (but for 46: what
-# follows it is code's to decide):
+# and behind them, after `two`, each sign of two cells whose first is none by itself, by its code point (but for 46 and 36: what
+# follows them is code's to decide), with the number of the first among such cells, and the cell of the second:
 #
-#     two FIRST SECOND POINT COMMENT
-#     two 5 123 0x7b {
+#     two FIRST SECOND POINT NUMBER CELL COMMENT
+#     two 5 123 0x7b 0 7 {
 #
 # POINT is the small letter or the sign that the cell is alone, CAPITAL the capital letter, FIGURE and LOWER the digit of the
-# cell and of the cell as a lower digit, KIND that of a pair mark, INSIDE what the cell is inside a number: its digit, the full
-# stop or the comma. CLASS is a class of tools/readings.txt.
+# cell and of the cell as a lower digit, KIND that of a pair mark, and of a cell that begins signs of two its number among those,
+# INSIDE what the cell is inside a number: its digit, the full stop or the comma. CLASS is a class of tools/readings.txt. Of a
+# pair mark of two cells the opener stands for both.
 #
 # What is read: the lines of tools/sign-list.awk. tools/print-cells.sh and tools/print-cell-list.sh print from these lines.
 # Nothing printed is trusted: the prover compares what is read at each cell with the rules.
@@ -46,7 +47,12 @@ $5 == "none" { next }
 $5 ~ /-/ {
     cells = split($5, cell, "-")
     begins[cell[1]] = 1
-    if (cells == 2 && $4 == "OTHER_SIGN" && $7 == "none" && cell[1] != "46") two[++twos] = "two\t" cell[1] "\t" cell[2] "\t" $2 "\t" $9
+    if (cells == 2 && $7 != "CLOSER" && cell[1] != "46" && cell[1] != "36") {
+        first[++twos] = cell[1]
+        second[twos] = cell[2]
+        point[twos] = $2
+        comment[twos] = $9
+    }
     next
 }
 
@@ -84,6 +90,15 @@ function class(d) {
 
 function or_none(list, d) { return (list, d) in has ? has[list, d] : "none" }
 
+# The number of a cell among those that begin signs of two, in their order.
+function number(c,    d) {
+    d = dots(c)
+    if (class(d) != "SEPARATOR" && class(d) != "PREFIX") return or_none("kind", d)
+    if (prefixes == 4) fail("a cell\047s word as the second of a sign has room for 4 cells before it")
+    before[d] = prefixes++
+    return before[d]
+}
+
 function inside(d) { return or_none(d == named["FULL_STOP"] || d == named["COMMA"] ? "point" : "figure", d) }
 
 END {
@@ -91,7 +106,8 @@ END {
     for (c = 0; c < 64; c++) {
         d = dots(c)
         printf "%d\t%s\t%s\t%s\t%s\t%s\t%s\t%s\t%s\t%s\n", c, d, class(d), or_none("point", d), or_none("capital", d), \
-            or_none("figure", d), or_none("lower", d), or_none("kind", d), inside(d), said[d]
+            or_none("figure", d), or_none("lower", d), number(c), inside(d), said[d]
+        at[d] = c
     }
-    for (i = 1; i <= twos; i++) print two[i]
+    for (i = 1; i <= twos; i++) printf "two\t%s\t%s\t%s\t%s\t%s\t%s\n", first[i], second[i], point[i], before[first[i]], at[second[i]], comment[i]
 }

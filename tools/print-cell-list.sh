@@ -1,7 +1,7 @@
 #!/bin/sh
 # prints: crates/readings/specs/Words.antt
 #
-# The word of each cell, and the signs of two cells, as lists which the specifications speak of. They are read from the
+# The word of each cell, alone and as the second of a sign of two, as lists which the specifications speak of. They are read from the
 # definitions (tools/sign-list.awk, tools/cell-list.awk). Classes have the names that they have in tools/readings.txt, in
 # camelCase: LETTER_A is `letterA`.
 #
@@ -32,15 +32,13 @@ modes=$(printf '%s\n' "$places" | awk -F '\t' "$camel"'$3 == "AS_USUAL" && !told
 
 cat <<TEXT
 -- Printed by tools/print-cell-list.sh from crates/rules/specs/Castilian.antt and tools/readings.txt: change those, and print it again.
--- The word of each cell by its fields, the cells that are letters or signs alone, and the signs of two cells whose first is none by itself. That they are what the
--- rules say is shown by computed tests (proofs/Tested.antt; of letters and signs alone, in the crate \`signs\`). Assumes nothing.
+-- The word of each cell by its fields, the cells that are letters or signs alone, and what each cell is as the second of a sign of two whose first is none by itself. That
+-- they are what the rules say is shown by computed tests (proofs/Tested.antt; of letters and signs alone, in the crate \`signs\`). Assumes nothing.
 use Prim.Native.Nat.{ℕ, _+_, _*_, _^_}
 use mathlib.Core.List.{List, [], _∷_}
 use lib.ListN.{getD}
-use Rattle.rules.specs.Cells.{dots}
-use Rattle.entries.specs.Chosen.{choose}
 use Rattle.readings.specs.Modes.{$modes}
-use Rattle.readings.specs.Fields.{$classes, usualAt, pointAt, capitalAt, figureAt, lowerAt, kindAt, classAt, thenAt}
+use Rattle.readings.specs.Fields.{$classes, usualAt, pointAt, capitalAt, figureAt, lowerAt, kindAt, classAt, thenAt, secondAt}
 
 -- WHAT A CLASS IS: its number, the mode after it where it is read as usual, and the modes in which it is
 TEXT
@@ -110,23 +108,25 @@ cat <<'TEXT'
 abbrev pub wordOf : ℕ → ℕ
 wordOf c = getD words c 0
 
--- two cells as one number
-abbrev pub paired : ℕ → ℕ → ℕ
-paired first second = first * 64 + second
-
-unfoldable pub twoCells : List (ℕ × ℕ)
-twoCells =
+-- AS THE SECOND of a sign of two cells, in the order of the cells: the sign for each number of the first, in its field; of a pair mark the opener
+unfoldable pub seconds : List ℕ
+seconds =
 TEXT
 
 printf '%s\n' "$cells" | awk -F '\t' '
-$1 == "two" {
-    printf "    %s(paired (dots %s) (dots %s), %s)\n", n++ ? "∷ " : "", $2, $3, $4
-}
-END { print "    ∷ []" }'
+$1 == "two" { before = $6 in word ? word[$6] " + " : ""; word[$6] = before "secondAt " $5 " * " $4; said[$6] = said[$6] " " $7; next }
+{ dots[$1] = $2 }
+END {
+    for (c = 0; c < 64; c++) {
+        print "    -- " dots[c] (c in word ? ":" said[c] : "")
+        print "    " (c ? "∷ " : "") (c in word ? "(" word[c] ")" : "0")
+    }
+    print "    ∷ []"
+}'
 
 cat <<'TEXT'
 
--- the sign of two cells, or 0
-abbrev pub twoOf : ℕ → ℕ → ℕ
-twoOf first second = choose twoCells (paired first second) 0
+-- that of a byte; one that is no cell ends no sign
+abbrev pub secondOf : ℕ → ℕ
+secondOf c = getD seconds c 0
 TEXT

@@ -1,7 +1,7 @@
 #!/bin/sh
 # prints: crates/readings/src/cells.rt
 #
-# The cells as code: the word of each by its fields, and the signs of two cells. They are read from the definitions
+# The cells as code: the word of each by its fields, alone and as the second of a sign of two. They are read from the definitions
 # (tools/sign-list.awk, tools/cell-list.awk), so a new sign is a line of crates/rules/specs/Castilian.antt; the modes in which
 # a class is read as usual are read from tools/readings.txt.
 #
@@ -18,13 +18,13 @@ places=$(awk -f tools/deeds.awk tools/readings.txt)
 
 cat <<'TEXT'
 // Printed by tools/print-cells.sh from crates/rules/specs/Castilian.antt and tools/readings.txt: change those, and print it again.
-// What a cell may be: its word, by its fields; and the signs of two cells that begin with a cell that is none by itself. The check compares what
-// is read at each with the rules.
+// What a cell may be: its word, by its fields; and its word as the second of a sign of two, which begins with a cell that is none by itself. The check compares
+// what is read at each with the rules.
 TEXT
 
 # In the order of the layout: an underscore goes before a letter.
 {
-    for name in CAPITAL_AT CLASS_AT FIGURE_AT FREE KIND_AT LOWER_AT MIXED NO_POINT POINT_AT RUN_CAPITAL RUN_FIGURE RUN_LOWER THEN_AT USUAL_AT; do echo "$name"; done
+    for name in CAPITAL_AT CLASS_AT FIGURE_AT FREE KIND_AT LOWER_AT MIXED NO_POINT POINT_AT POINT_BITS RUN_BETWEEN RUN_CAPITAL RUN_FIGURE RUN_LOWER THEN_AT USUAL_AT; do echo "$name"; done
     printf '%s\n' "$cells" | awk -F '\t' '$1 != "two" { print $3 }'
     printf '%s\n' "$places" | awk -F '\t' '$3 == "AS_USUAL" { print $2 }'
 } | tr _ ' ' | sort -u | tr ' ' _ | sed 's/.*/use crate::&;/'
@@ -32,7 +32,7 @@ TEXT
 cat <<'TEXT'
 ghost use mathlib.Core.Path.{_≡_};
 ghost use Rattle.readings.specs.Fields.{capitalIn, letterIn, insideIn, runIn};
-ghost use Rattle.readings.specs.Words.{wordOf, twoOf};
+ghost use Rattle.readings.specs.Words.{wordOf, secondOf};
 
 // The cells, by their dots.
 TEXT
@@ -143,14 +143,16 @@ field inside_number 9 'What a cell is inside a number: its digit, the full stop 
 
 cat <<'TEXT'
 
-// What a cell is within a run, where each cell is one code point: its digit, its capital and its lower digit, a field for each.
+// What a cell is within a run, where each cell is one code point: its digit, its capital, its lower digit, and the full stop or the comma between two digits, a field
+// for each.
 TEXT
 printf '%s\n' "$cells" | awk -F '\t' '
-$1 != "two" && $5 $6 $7 != "nonenonenone" {
+$1 != "two" && $5 $6 $7 $9 != "nonenonenonenone" {
     word = ""
     if ($6 != "none") word = word " + RUN_FIGURE * " $6
     if ($5 != "none") word = word " + RUN_CAPITAL * " $5
     if ($7 != "none") word = word " + RUN_LOWER * " $7
+    if ($9 != $6) word = word " + RUN_BETWEEN * " $9
     print "const R" $2 ": u64 = " substr(word, 4) "; // " $10
     print ""
 }'
@@ -161,30 +163,41 @@ pub fn run_word(cell: u8) -> u64
     match cell {
 TEXT
 printf '%s\n' "$cells" | awk -F '\t' '
-$1 != "two" { print "        D" $2 " => " ($5 $6 $7 == "nonenonenone" ? "NOTHING" : "R" $2) "," }'
+$1 != "two" { print "        D" $2 " => " ($5 $6 $7 $9 == "nonenonenonenone" ? "NOTHING" : "R" $2) "," }'
 cat <<'TEXT'
         _ => NOTHING,
     }
 }
 
-// Two cells as one number.
-const CELL_PLACES: usize = 64;
-
+// The cells that begin signs of two and are none by themselves, in their order: where the sign of each stands in the word of the second.
 TEXT
 printf '%s\n' "$cells" | awk -F '\t' '
-$1 == "two" { print "const D" $2 "_" $3 ": usize = D" $2 " as usize * CELL_PLACES + D" $3 " as usize;"; print "" }'
+$1 == "two" { dots[$5] = $2; if ($5 + 1 > count) count = $5 + 1 }
+END { for (n = 0; n < count; n++) { print "const BEHIND_" dots[n] ": u64 = 1 << (" n " * POINT_BITS);"; print "" } }'
 
 cat <<'TEXT'
-// The sign of two cells, or NO_POINT.
-pub fn two_cells(first: u8, second: u8) -> u32
-    ensures { λ r. ⌜ r ≡ twoOf first second ⌝ }
+// The words of the second cells. Of a pair mark the opener stands for both.
+TEXT
+printf '%s\n' "$cells" | awk -F '\t' '
+$1 == "two" { before = $6 in word ? word[$6] " + " : ""; word[$6] = before "BEHIND_" $2 " * " $4; dots[$6] = $3; said[$6] = said[$6] " " $7 }
+END { for (c = 0; c < 64; c++) if (c in word) { print "const S" dots[c] ": u64 = " word[c] "; //" said[c]; print "" } }'
+
+cat <<'TEXT'
+// What a cell is as the second of a sign of two. (Every byte is named, as above.)
+pub fn second_word(cell: u8) -> u64
+    ensures { λ r. ⌜ r ≡ secondOf cell ⌝ }
 {
-    match first as usize * CELL_PLACES + second as usize {
+    match cell {
 TEXT
 printf '%s\n' "$cells" | awk -F '\t' '
-$1 == "two" { print "        D" $2 "_" $3 " => " $4 ", // " $5 }'
+$1 == "two" { ends[$6]; next }
+{ dots[$1] = $2 }
+END {
+    for (c = 0; c < 64; c++) print "        D" dots[c] " => " (c in ends ? "S" dots[c] : "NOTHING") ","
+    for (byte = 64; byte < 255; byte++) print "        " byte " => NOTHING," (byte == 64 ? " // from here on no cells" : "")
+}'
 cat <<'TEXT'
-        _ => NO_POINT,
+        _ => NOTHING,
     }
 }
 TEXT

@@ -5,6 +5,7 @@ use mathlib.Core.List.{List, [], _∷_}
 use mathlib.Core.Option.{Option, none, some}
 use Prim.Native.Nat.{ℕ, _+_}
 use lib.Dec.{T, eqb, leb}
+use Prim.Native.Char.{code}
 use lib.ListN.{length}
 use Rattle.rules.specs.Cells.{dots}
 use Rattle.rules.specs.Sorts.{class, isDigitCell}
@@ -23,8 +24,8 @@ use Rattle.readings.specs.Modes.{modeOf, modeCount, spare}
 use Rattle.readings.specs.Acts as act
 use Rattle.readings.specs.Deeds.{deeds}
 use Rattle.readings.specs.Fields.{deedOf, classIn, usualIn, noCell}
-use Rattle.readings.specs.Words.{words, wordOf, twoCells}
-use Rattle.readings.specs.Readings.{onceList, readingOf, byWord, askedBy, capitalBy, numberBy, percentBy, longerBy, prefixBy, openerOf, closerOf}
+use Rattle.readings.specs.Words.{words, wordOf, seconds}
+use Rattle.readings.specs.Readings.{onceList, readingOf, byWord, askedBy, capitalBy, afterCapital, numberBy, percentBy, twoOf, longerBy, prefixBy, openerOf, closerOf}
 use Rattle.readings.specs.Print.{points}
 use Rattle.readings.proofs.Sight.{says}
 use Rattle.readings.proofs.Settling.{Cand, cands, bucket, sound-word, closes, settle}
@@ -39,7 +40,7 @@ abbrev pub asks : ℕ → ℕ → Bool
 asks m w = not (usualIn w m || among (keysOf (onceList w)) (deedOf m (classIn w)))
 
 abbrev pub deeper : ℕ → ℕ → ℕ → Bool
-deeper d x y = (leb act.beginsRun d && eqb y (dots 46)) || (eqb x (dots 456) && eqb y (dots 356))
+deeper d w y = (eqb d act.capital && eqb y (dots 46)) || eqb (twoOf w y) (code "%")
 
 -- how many there are to try: the cells, and none
 abbrev pub sights : ℕ
@@ -48,7 +49,7 @@ sights = 65
 unfoldable pub right-two : ℕ → ℕ → ℕ → List Cand → Bool
 unfolding settle readingOf
 right-two m x y cs =
-    elim (deeper (deedOf m (classIn (wordOf x))) x y) [
+    elim (deeper (deedOf m (classIn (wordOf x))) (wordOf x) y) [
       | true ↦ below (λ z. settle (x ∷ y ∷ z ∷ []) cs (readingOf m x y z)) sights
       | false ↦ settle (x ∷ y ∷ []) cs (readingOf m x y noCell)
     ]
@@ -66,7 +67,7 @@ unfolding right-one begun cands
 right-at x = below (λ m. right-one m x (cands (modeOf m) (begun x))) modeCount
 
 pub all-right : T (below right-at sights)
-unfolding right-at right-one right-two begun cands bucket settle closes says readingOf byWord askedBy capitalBy numberBy percentBy longerBy prefixBy openerOf closerOf words twoCells deeds all-pieces castilian ways-of begins-as look-of class isDigitCell dots signCells ownCells lowerCells markOf step at-rest lead-of
+unfolding right-at right-one right-two begun cands bucket settle closes says readingOf byWord askedBy capitalBy afterCapital numberBy percentBy twoOf longerBy prefixBy openerOf closerOf words seconds deeds all-pieces castilian ways-of begins-as look-of class isDigitCell dots signCells ownCells lowerCells markOf step at-rest lead-of
 all-right = tt
 
 pub all-sound : T (every (λ (s : Piece). sound-word (word s)) (all-pieces castilian))

@@ -8,8 +8,9 @@ use mathlib.Core.Option.{Option, none, some}
 use Prim.Native.Nat.{ℕ, zero, suc, _+_, _-_, _≤_, _<_}
 use native.Mathlib.Omega.{arith}
 use native.Mathlib.Nat.{not-suc-le-zero}
-use lib.Dec.{T, eqb, leb, ltb, ltb→lt}
-use borrow.Author.Tests.{leb-true, ltb-false, le-leb}
+use lib.Dec.{T, eqb, leb, ltb, ltb→lt, eqb→eq}
+use Prim.Native.Char.{code}
+use borrow.Author.Tests.{leb-true}
 use lib.ListN.{length, getD, drop, length-append, length-drop, drop-of-length-le, List·getD-append}
 use lib.Seq.{getD-drop, drop-drop}
 use Rattle.rules.specs.Cells.{Row, Text, dots, lastCell}
@@ -33,7 +34,7 @@ use Rattle.readings.specs.Modes.{modeOf, modeCount, spare}
 use Rattle.readings.specs.Acts as act
 use Rattle.readings.specs.Fields.{deedOf, classIn, usualIn, noCell, cellFrom, cellOf}
 use Rattle.readings.specs.Words.{wordOf}
-use Rattle.readings.specs.Readings.{Reading, usualBy, onceList, askList, readingOf, byWord, askedBy, capitalBy, prefixBy, longerBy, stepOf, stepAt}
+use Rattle.readings.specs.Readings.{Reading, usualBy, onceList, askList, readingOf, byWord, askedBy, capitalBy, prefixBy, twoOf, longerBy, stepOf, stepAt}
 use Rattle.readings.specs.Left.{left, signsBy, addSign}
 use Rattle.readings.specs.Print.{points}
 use Rattle.readings.specs.declared.Step.{Step}
@@ -74,8 +75,8 @@ once-same m x y z v w e = go (usualIn (wordOf x) m) e
     d = deedOf m (classIn (wordOf x))
 
     go : (u : Bool) → not (u || among (keysOf (onceList (wordOf x))) (deedOf m (classIn (wordOf x)))) ≡ false
-        → cond u (usualBy (wordOf x)) (choose (onceList (wordOf x)) (deedOf m (classIn (wordOf x))) (askedBy (deedOf m (classIn (wordOf x))) (wordOf x) x y z))
-        ≡ cond u (usualBy (wordOf x)) (choose (onceList (wordOf x)) (deedOf m (classIn (wordOf x))) (askedBy (deedOf m (classIn (wordOf x))) (wordOf x) x v w))
+        → cond u (usualBy (wordOf x)) (choose (onceList (wordOf x)) (deedOf m (classIn (wordOf x))) (askedBy m (deedOf m (classIn (wordOf x))) (wordOf x) y z))
+        ≡ cond u (usualBy (wordOf x)) (choose (onceList (wordOf x)) (deedOf m (classIn (wordOf x))) (askedBy m (deedOf m (classIn (wordOf x))) (wordOf x) v w))
     go true e = refl
     go false e = chosen-key (onceList (wordOf x)) (deedOf m (classIn (wordOf x))) _ _ (not-not (among (keysOf (onceList (wordOf x))) (deedOf m (classIn (wordOf x)))) e)
       where
@@ -91,22 +92,25 @@ or-right : (a b : Bool) → (a || b) ≡ false → b ≡ false
 or-right true b e = absurd (true≢false e)
 or-right false b e = e
 
-asked-same : (d w x y z v : ℕ) → deeper d x y ≡ false → askedBy d w x y z ≡ askedBy d w x y v
+asked-same : (m d w y z v : ℕ) → deeper d w y ≡ false → askedBy m d w y z ≡ askedBy m d w y v
 unfolding askedBy prefixBy longerBy capitalBy
-asked-same d w x y z v e = ap (choose (askList w y) d) (go (ltb d act.beginsRun) refl)
+asked-same m d w y z v e = go (eqb d act.capital) refl
   where
-    go : (b : Bool) → ltb d act.beginsRun ≡ b
-        → cond b (prefixBy d x y z) (capitalBy d y z) ≡ cond b (prefixBy d x y v) (capitalBy d y v)
-    go true f = rw (or-right (leb act.beginsRun d && eqb y (dots 46)) (eqb x (dots 456) && eqb y (dots 356)) e) refl
-    go false f =
-        let a : (leb act.beginsRun d && eqb y (dots 46)) ≡ false = or-left (leb act.beginsRun d && eqb y (dots 46)) (eqb x (dots 456) && eqb y (dots 356)) e in
-        let b : leb act.beginsRun d ≡ true = le-leb act.beginsRun d (ltb-false d act.beginsRun f) in
-        let c : eqb y (dots 46) ≡ false = ap (λ (t : Bool). t && eqb y (dots 46)) (sym b) ∙ a in
-        rw c
+    no-percent : eqb (twoOf w y) (code "%") ≡ false
+    no-percent = or-right (eqb d act.capital && eqb y (dots 46)) (eqb (twoOf w y) (code "%")) e
 
-two-same : (m x y z v : ℕ) → deeper (deedOf m (classIn (wordOf x))) x y ≡ false → readingOf m x y z ≡ readingOf m x y v
+    no-run : (eqb d act.capital && eqb y (dots 46)) ≡ false
+    no-run = or-left (eqb d act.capital && eqb y (dots 46)) (eqb (twoOf w y) (code "%")) e
+
+    go : (b : Bool) → eqb d act.capital ≡ b → choose (askList m w y z) d (prefixBy d w y z) ≡ choose (askList m w y v) d (prefixBy d w y v)
+    go true f =
+        let c : eqb y (dots 46) ≡ false = ap (λ (t : Bool). t && eqb y (dots 46)) (sym f) ∙ no-run in
+        rw (eqb→eq d act.capital (subst T (sym f) tt), c) refl
+    go false f = rw (f, no-percent) refl
+
+two-same : (m x y z v : ℕ) → deeper (deedOf m (classIn (wordOf x))) (wordOf x) y ≡ false → readingOf m x y z ≡ readingOf m x y v
 unfolding readingOf byWord
-two-same m x y z v e = rw (asked-same (deedOf m (classIn (wordOf x))) (wordOf x) x y z v e)
+two-same m x y z v e = rw (asked-same m (deedOf m (classIn (wordOf x))) (wordOf x) y z v e)
 
 -- THE STEP IS WHAT IS FOUND. Of any row that is left: by the cells in view
 module _ (r : Row) (m o at : ℕ) (small : m < modeCount) (few : o < openStates) where
@@ -124,9 +128,9 @@ module _ (r : Row) (m o at : ℕ) (small : m < modeCount) (few : o < openStates)
 
   by-two : T (right-two m (cellOf r 0) (cellOf r 1) (cands (modeOf m) (begun (cellOf r 0)))) → Found (readingOf m (cellOf r 0) (cellOf r 1) (cellOf r 2))
   unfolding right-two begun
-  by-two t = go (deeper (deedOf m (classIn (wordOf (cellOf r 0)))) (cellOf r 0) (cellOf r 1)) refl t
+  by-two t = go (deeper (deedOf m (classIn (wordOf (cellOf r 0)))) (wordOf (cellOf r 0)) (cellOf r 1)) refl t
     where
-      go : (b : Bool) → deeper (deedOf m (classIn (wordOf (cellOf r 0)))) (cellOf r 0) (cellOf r 1) ≡ b
+      go : (b : Bool) → deeper (deedOf m (classIn (wordOf (cellOf r 0)))) (wordOf (cellOf r 0)) (cellOf r 1) ≡ b
           → T (elim b as (λ _. Bool) [
             | true ↦ below (λ n. settle (cellOf r 0 ∷ cellOf r 1 ∷ n ∷ []) (cands (modeOf m) (begun (cellOf r 0))) (readingOf m (cellOf r 0) (cellOf r 1) n)) sights
             | false ↦ settle (cellOf r 0 ∷ cellOf r 1 ∷ []) (cands (modeOf m) (begun (cellOf r 0))) (readingOf m (cellOf r 0) (cellOf r 1) noCell)

@@ -45,23 +45,11 @@ dashOnly = 11
 abbrev pub numberSign : ℕ
 numberSign = 12
 
+abbrev pub capital : ℕ
+capital = 13
+
 abbrev pub separates : ℕ
-separates = 13
+separates = 14
 
 abbrev pub prefixed : ℕ
-prefixed = 14
-
-abbrev pub beginsRun : ℕ
-beginsRun = 15
-
-abbrev pub runGoesOn : ℕ
-runGoesOn = 16
-
-abbrev pub secondCapital : ℕ
-secondCapital = 17
-
-abbrev pub owedCapital : ℕ
-owedCapital = 18
-
-abbrev pub greaterOnly : ℕ
-greaterOnly = 19
+prefixed = 15

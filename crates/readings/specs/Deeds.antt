@@ -3,40 +3,40 @@
 -- is no sign. That it is what the rules say is shown by a computed test (proofs/Tested.antt). Assumes nothing.
 use Prim.Native.Nat.{ℕ}
 use mathlib.Core.List.{List, [], _∷_}
-use Rattle.readings.specs.Acts.{asUsual, beginsRun, capitalOfMany, dashOnly, denominator, digit, digitUnder, greaterOnly, hyphenOrDash, lowerDigit, masculineMark, noSign, numberSign, oneOrFeminine, owedCapital, point, prefixed, runGoesOn, secondCapital, separates}
+use Rattle.readings.specs.Acts.{asUsual, capital, capitalOfMany, dashOnly, denominator, digit, digitUnder, hyphenOrDash, lowerDigit, masculineMark, noSign, numberSign, oneOrFeminine, point, prefixed, separates}
 
 unfoldable pub deeds : List ℕ
 deeds =
     -- free
-    noSign ∷ asUsual ∷ asUsual ∷ asUsual ∷ asUsual ∷ asUsual ∷ asUsual ∷ asUsual ∷ asUsual ∷ noSign ∷ asUsual ∷ hyphenOrDash ∷ beginsRun ∷ numberSign ∷ prefixed ∷ prefixed
+    noSign ∷ asUsual ∷ asUsual ∷ asUsual ∷ asUsual ∷ asUsual ∷ asUsual ∷ asUsual ∷ asUsual ∷ noSign ∷ asUsual ∷ hyphenOrDash ∷ capital ∷ numberSign ∷ prefixed ∷ prefixed
     -- lone
-    ∷ noSign ∷ asUsual ∷ asUsual ∷ asUsual ∷ asUsual ∷ asUsual ∷ asUsual ∷ asUsual ∷ asUsual ∷ noSign ∷ asUsual ∷ hyphenOrDash ∷ secondCapital ∷ numberSign ∷ prefixed ∷ prefixed
+    ∷ noSign ∷ asUsual ∷ asUsual ∷ asUsual ∷ asUsual ∷ asUsual ∷ asUsual ∷ asUsual ∷ asUsual ∷ noSign ∷ asUsual ∷ hyphenOrDash ∷ capital ∷ numberSign ∷ prefixed ∷ prefixed
     -- mixed
-    ∷ noSign ∷ asUsual ∷ asUsual ∷ asUsual ∷ asUsual ∷ asUsual ∷ asUsual ∷ asUsual ∷ asUsual ∷ noSign ∷ asUsual ∷ hyphenOrDash ∷ runGoesOn ∷ numberSign ∷ prefixed ∷ prefixed
+    ∷ noSign ∷ asUsual ∷ asUsual ∷ asUsual ∷ asUsual ∷ asUsual ∷ asUsual ∷ asUsual ∷ asUsual ∷ noSign ∷ asUsual ∷ hyphenOrDash ∷ capital ∷ numberSign ∷ prefixed ∷ prefixed
     -- whole1
     ∷ noSign ∷ capitalOfMany ∷ capitalOfMany ∷ capitalOfMany ∷ capitalOfMany ∷ noSign ∷ noSign ∷ noSign ∷ noSign ∷ noSign ∷ noSign ∷ noSign ∷ noSign ∷ noSign ∷ noSign ∷ noSign
     -- under1
     ∷ noSign ∷ digitUnder ∷ digitUnder ∷ noSign ∷ noSign ∷ noSign ∷ noSign ∷ noSign ∷ noSign ∷ noSign ∷ noSign ∷ noSign ∷ noSign ∷ noSign ∷ noSign ∷ noSign
     -- end
-    ∷ noSign ∷ noSign ∷ noSign ∷ asUsual ∷ asUsual ∷ asUsual ∷ asUsual ∷ asUsual ∷ asUsual ∷ noSign ∷ asUsual ∷ hyphenOrDash ∷ beginsRun ∷ noSign ∷ prefixed ∷ prefixed
+    ∷ noSign ∷ noSign ∷ noSign ∷ asUsual ∷ asUsual ∷ asUsual ∷ asUsual ∷ asUsual ∷ asUsual ∷ noSign ∷ asUsual ∷ hyphenOrDash ∷ capital ∷ noSign ∷ prefixed ∷ prefixed
     -- hyphen
-    ∷ noSign ∷ asUsual ∷ asUsual ∷ asUsual ∷ asUsual ∷ asUsual ∷ asUsual ∷ asUsual ∷ asUsual ∷ noSign ∷ asUsual ∷ noSign ∷ beginsRun ∷ numberSign ∷ prefixed ∷ prefixed
+    ∷ noSign ∷ asUsual ∷ asUsual ∷ asUsual ∷ asUsual ∷ asUsual ∷ asUsual ∷ asUsual ∷ asUsual ∷ noSign ∷ asUsual ∷ noSign ∷ capital ∷ numberSign ∷ prefixed ∷ prefixed
     -- fem
-    ∷ noSign ∷ noSign ∷ noSign ∷ asUsual ∷ asUsual ∷ asUsual ∷ asUsual ∷ asUsual ∷ asUsual ∷ noSign ∷ asUsual ∷ hyphenOrDash ∷ beginsRun ∷ numberSign ∷ prefixed ∷ prefixed
+    ∷ noSign ∷ noSign ∷ noSign ∷ asUsual ∷ asUsual ∷ asUsual ∷ asUsual ∷ asUsual ∷ asUsual ∷ noSign ∷ asUsual ∷ hyphenOrDash ∷ capital ∷ numberSign ∷ prefixed ∷ prefixed
     -- percent
-    ∷ noSign ∷ asUsual ∷ asUsual ∷ asUsual ∷ asUsual ∷ asUsual ∷ asUsual ∷ asUsual ∷ asUsual ∷ noSign ∷ asUsual ∷ hyphenOrDash ∷ beginsRun ∷ numberSign ∷ prefixed ∷ prefixed
+    ∷ noSign ∷ asUsual ∷ asUsual ∷ asUsual ∷ asUsual ∷ asUsual ∷ asUsual ∷ asUsual ∷ asUsual ∷ noSign ∷ asUsual ∷ hyphenOrDash ∷ capital ∷ numberSign ∷ prefixed ∷ prefixed
     -- owing
-    ∷ noSign ∷ asUsual ∷ asUsual ∷ asUsual ∷ asUsual ∷ noSign ∷ noSign ∷ noSign ∷ noSign ∷ noSign ∷ noSign ∷ noSign ∷ owedCapital ∷ noSign ∷ noSign ∷ noSign
+    ∷ noSign ∷ asUsual ∷ asUsual ∷ asUsual ∷ asUsual ∷ noSign ∷ noSign ∷ noSign ∷ noSign ∷ noSign ∷ noSign ∷ noSign ∷ capital ∷ noSign ∷ noSign ∷ noSign
     -- dash
-    ∷ noSign ∷ asUsual ∷ asUsual ∷ asUsual ∷ asUsual ∷ asUsual ∷ asUsual ∷ asUsual ∷ asUsual ∷ noSign ∷ asUsual ∷ dashOnly ∷ beginsRun ∷ numberSign ∷ prefixed ∷ prefixed
+    ∷ noSign ∷ asUsual ∷ asUsual ∷ asUsual ∷ asUsual ∷ asUsual ∷ asUsual ∷ asUsual ∷ asUsual ∷ noSign ∷ asUsual ∷ dashOnly ∷ capital ∷ numberSign ∷ prefixed ∷ prefixed
     -- whole2
-    ∷ noSign ∷ capitalOfMany ∷ capitalOfMany ∷ capitalOfMany ∷ capitalOfMany ∷ asUsual ∷ asUsual ∷ asUsual ∷ asUsual ∷ noSign ∷ asUsual ∷ hyphenOrDash ∷ greaterOnly ∷ numberSign ∷ prefixed ∷ prefixed
+    ∷ noSign ∷ capitalOfMany ∷ capitalOfMany ∷ capitalOfMany ∷ capitalOfMany ∷ asUsual ∷ asUsual ∷ asUsual ∷ asUsual ∷ noSign ∷ asUsual ∷ hyphenOrDash ∷ capital ∷ numberSign ∷ prefixed ∷ prefixed
     -- num
-    ∷ noSign ∷ digit ∷ digit ∷ asUsual ∷ asUsual ∷ point ∷ point ∷ asUsual ∷ asUsual ∷ noSign ∷ asUsual ∷ hyphenOrDash ∷ beginsRun ∷ noSign ∷ separates ∷ prefixed
+    ∷ noSign ∷ digit ∷ digit ∷ asUsual ∷ asUsual ∷ point ∷ point ∷ asUsual ∷ asUsual ∷ noSign ∷ asUsual ∷ hyphenOrDash ∷ capital ∷ noSign ∷ separates ∷ prefixed
     -- low
     ∷ noSign ∷ oneOrFeminine ∷ denominator ∷ masculineMark ∷ noSign ∷ noSign ∷ lowerDigit ∷ lowerDigit ∷ lowerDigit ∷ lowerDigit ∷ noSign ∷ noSign ∷ noSign ∷ noSign ∷ noSign ∷ noSign
     -- under
-    ∷ noSign ∷ digitUnder ∷ digitUnder ∷ asUsual ∷ asUsual ∷ asUsual ∷ asUsual ∷ asUsual ∷ asUsual ∷ noSign ∷ asUsual ∷ hyphenOrDash ∷ beginsRun ∷ noSign ∷ separates ∷ prefixed
+    ∷ noSign ∷ digitUnder ∷ digitUnder ∷ asUsual ∷ asUsual ∷ asUsual ∷ asUsual ∷ asUsual ∷ asUsual ∷ noSign ∷ asUsual ∷ hyphenOrDash ∷ capital ∷ noSign ∷ separates ∷ prefixed
     -- mid
     ∷ noSign ∷ digit ∷ digit ∷ noSign ∷ noSign ∷ noSign ∷ noSign ∷ noSign ∷ noSign ∷ noSign ∷ noSign ∷ noSign ∷ noSign ∷ noSign ∷ noSign ∷ noSign
     ∷ []

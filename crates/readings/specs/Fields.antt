@@ -87,7 +87,7 @@ abbrev pub thenAt : ℕ
 thenAt = 1152921504606846976
 
 -- WHAT A WORD SAYS: its class; the small letter or the sign that the cell is alone; its capital, its digit and its digit as a lower digit (0 for none); the
--- kind of a pair mark; the mode after it where it is read as usual; is it read as usual in a mode
+-- kind of a pair mark, and of a cell that begins signs of two its number among those; the mode after it where it is read as usual; is it read as usual in a mode
 abbrev pub classIn : ℕ → ℕ
 classIn w = w / classAt % 16
 
@@ -107,9 +107,12 @@ lowerIn w = w / lowerAt % 64
 abbrev pub letterIn : ℕ → ℕ
 letterIn w = cond (eqb (capitalIn w) 0) 0 (pointIn w)
 
--- what it is inside a number: its digit, or else the full stop or the comma
+-- what it is between two digits of a number, the full stop or the comma; and anywhere inside one, its digit or that
+abbrev pub betweenIn : ℕ → ℕ
+betweenIn w = cond (eqb (classIn w) stop || eqb (classIn w) comma) (pointIn w) 0
+
 abbrev pub insideIn : ℕ → ℕ
-insideIn w = cond (eqb (figureIn w) 0) (cond (eqb (classIn w) stop || eqb (classIn w) comma) (pointIn w) 0) (figureIn w)
+insideIn w = cond (eqb (figureIn w) 0) (betweenIn w) (figureIn w)
 
 abbrev pub kindIn : ℕ → ℕ
 kindIn w = w / kindAt % 16
@@ -120,12 +123,17 @@ thenIn w = w / thenAt
 abbrev pub usualIn : ℕ → ℕ → Bool
 usualIn w m = eqb (w / 2 ^ (m % 64) % 2) 1
 
--- WITHIN A RUN, where each cell is one code point: the digit, the capital and the lower digit of a word, 16 bits for each; the field that a run asks for
+-- WITHIN A RUN, where each cell is one code point: the digit, the capital and the lower digit of a word, and what it is between two digits, 16 bits for each; the
+-- field that a run asks for
 abbrev pub runIn : ℕ → ℕ
-runIn w = figureIn w + 65536 * capitalIn w + 4294967296 * lowerIn w
+runIn w = figureIn w + 65536 * capitalIn w + 4294967296 * lowerIn w + 281474976710656 * betweenIn w
 
 abbrev pub runPoint : ℕ → ℕ → ℕ
 runPoint w run = runIn w / 2 ^ (run % 64) % 65536
+
+-- AS THE SECOND of a sign of two cells: where the field for the first stands, by its number (its `kindIn`)
+abbrev pub secondAt : ℕ → ℕ
+secondAt n = 65536 ^ n
 
 -- THE CELL at a place of a row, and `noCell` past its end or where the byte is no cell
 abbrev pub noCell : ℕ

@@ -2,9 +2,9 @@
 -- place; the step that it is. These are the inner functions' promises: that a reading is what the rules find is shown in proofs/. Assumes nothing.
 use mathlib.Core.Bool.{Bool, cond, not, _&&_}
 use mathlib.Core.List.{List, [], _∷_}
-use Prim.Native.Nat.{ℕ, _+_, _%_}
+use Prim.Native.Nat.{ℕ, _+_, _*_, _/_, _%_, _^_}
 use Prim.Native.Char.{code}
-use lib.Dec.{eqb, ltb}
+use lib.Dec.{eqb}
 use lib.ListN.{getD}
 use Rattle.rules.specs.Cells.{Row, dots}
 use Rattle.entries.specs.Chosen.{choose}
@@ -12,7 +12,7 @@ use Rattle.pairs.specs.Opened.{isOpen, turnedBy}
 use Rattle.readings.specs.Modes as mode
 use Rattle.readings.specs.Acts as act
 use Rattle.readings.specs.Fields.{deedOf, classIn, pointIn, capitalIn, figureIn, lowerIn, kindIn, thenIn, usualIn, cellOf}
-use Rattle.readings.specs.Words.{wordOf, twoOf}
+use Rattle.readings.specs.Words.{wordOf, secondOf}
 use Rattle.readings.specs.declared.Step.{Step}
 use Rattle.readings.specs.declared.Step.the-variants as step
 
@@ -53,20 +53,36 @@ onceList w =
 abbrev pub digitCell : ℕ → Bool
 digitCell y = not (eqb (figureIn (wordOf y)) noPoint)
 
-abbrev pub capitalModes : ℕ → List (ℕ × Reading)
-capitalModes letter =
-    (act.beginsRun, one letter 2 mode.lone) ∷ (act.runGoesOn, one letter 2 mode.mixed) ∷ (act.greaterOnly, nothing) ∷ []
+-- the mode after a capital that has a 46 of its own, in the order of the modes before it: `lone` where a run begins, and `free` where no such capital stands
+abbrev pub capitalModes : List ℕ
+capitalModes =
+    -- free, lone, mixed
+    mode.lone ∷ mode.owing ∷ mode.mixed
+    -- whole1, under1
+    ∷ mode.free ∷ mode.free
+    -- end, hyphen, fem, percent
+    ∷ mode.lone ∷ mode.lone ∷ mode.lone ∷ mode.lone
+    -- owing, dash, whole2
+    ∷ mode.owing ∷ mode.lone ∷ mode.free
+    -- num, low, under, mid
+    ∷ mode.lone ∷ mode.free ∷ mode.lone ∷ mode.free
+    ∷ []
 
+unfoldable pub afterCapital : ℕ → ℕ
+afterCapital m = getD capitalModes (m % 16) mode.free
+
+-- a is that mode
 abbrev pub firstOfRun : ℕ → ℕ → Reading
-firstOfRun d first = cond (eqb first noPoint) nothing (cond (eqb d act.beginsRun) (one first 3 mode.whole1) nothing)
+firstOfRun a first = cond (eqb first noPoint) nothing (cond (eqb a mode.lone) (one first 3 mode.whole1) nothing)
 
 abbrev pub capitalLetter : ℕ → ℕ → Reading
-capitalLetter d letter = cond (eqb letter noPoint) nothing (choose (capitalModes letter) d (one letter 2 mode.owing))
+capitalLetter a letter = cond (eqb letter noPoint) nothing (cond (eqb a mode.free) nothing (one letter 2 a))
 
 unfoldable pub capitalBy : ℕ → ℕ → ℕ → Reading
-capitalBy d y z =
-    cond (eqb y (dots 46)) (firstOfRun d (capitalIn (wordOf z)))
-    (cond (eqb y (dots 2)) (cond (eqb d act.owedCapital) nothing (one (code ">") 2 mode.free)) (capitalLetter d (capitalIn (wordOf y))))
+unfolding afterCapital
+capitalBy m y z =
+    cond (eqb y (dots 46)) (firstOfRun (afterCapital m) (capitalIn (wordOf z)))
+    (cond (eqb y (dots 2)) (cond (eqb m mode.owing) nothing (one (code ">") 2 mode.free)) (capitalLetter (afterCapital m) (capitalIn (wordOf y))))
 
 unfoldable pub numberBy : ℕ → Reading
 numberBy w =
@@ -79,42 +95,45 @@ percentBy z = cond (eqb z (dots 356)) (one (code "‰") 3 mode.free) (one (code 
 abbrev pub innerQuotes : ℕ
 innerQuotes = 3
 
-abbrev pub twoBy : ℕ → Reading
-twoBy point = cond (eqb point noPoint) nothing (one point 2 mode.free)
+-- the sign of two cells, or `noPoint`, w being the word of the first; of a pair mark the opener
+unfoldable pub twoOf : ℕ → ℕ → ℕ
+twoOf w y = secondOf y / 2 ^ (kindIn w * 16 % 64) % 65536
+
+abbrev pub twoList : ℕ → List (ℕ × Reading)
+twoList z = (noPoint, nothing) ∷ (code "%", percentBy z) ∷ (code "‘", aMark innerQuotes 2) ∷ []
 
 unfoldable pub longerBy : ℕ → ℕ → ℕ → Reading
-unfolding percentBy
-longerBy x y z =
-    cond (eqb x (dots 456) && eqb y (dots 356)) (percentBy z)
-    (cond (eqb x (dots 6) && eqb y (dots 236)) (aMark innerQuotes 2) (twoBy (twoOf x y)))
+unfolding percentBy twoOf
+longerBy w y z = choose (twoList z) (twoOf w y) (one (twoOf w y) 2 mode.free)
 
 unfoldable pub prefixBy : ℕ → ℕ → ℕ → ℕ → Reading
 unfolding longerBy
-prefixBy d x y z = cond (eqb d act.separates && digitCell y) (one (pointIn (wordOf y)) 2 mode.mixed) (longerBy x y z)
+prefixBy d w y z = cond (eqb d act.separates && digitCell y) (one (pointIn (wordOf y)) 2 mode.mixed) (longerBy w y z)
 
-abbrev pub askList : ℕ → ℕ → List (ℕ × Reading)
-askList w y =
+abbrev pub askList : ℕ → ℕ → ℕ → ℕ → List (ℕ × Reading)
+askList m w y z =
     (act.point, cond (digitCell y) (one (pointIn w) 1 mode.mid) (one (pointIn w) 1 mode.end))
     ∷ (act.oneOrFeminine, cond (digitCell y) (reads (code "⁄") (code "1") 1 mode.under1) (reads (code ".") (code "ª") 1 mode.fem))
     ∷ (act.hyphenOrDash, cond (eqb y (dots 36)) (one (code "—") 2 mode.dash) (one (code "-") 1 mode.hyphen))
     ∷ (act.dashOnly, cond (eqb y (dots 36)) (one (code "—") 2 mode.dash) nothing)
     ∷ (act.numberSign, numberBy (wordOf y))
+    ∷ (act.capital, capitalBy m y z)
     ∷ []
 
 unfoldable pub askedBy : ℕ → ℕ → ℕ → ℕ → ℕ → Reading
 unfolding numberBy prefixBy capitalBy
-askedBy d w x y z = choose (askList w y) d (cond (ltb d act.beginsRun) (prefixBy d x y z) (capitalBy d y z))
+askedBy m d w y z = choose (askList m w y z) d (prefixBy d w y z)
 
 -- THE READING, from the mode and three cells
-unfoldable pub byWord : ℕ → ℕ → ℕ → ℕ → ℕ → Reading
+unfoldable pub byWord : ℕ → ℕ → ℕ → ℕ → Reading
 unfolding askedBy
-byWord m w x y z =
+byWord m w y z =
     cond (usualIn w m) (usualBy w)
-    (choose (onceList w) (deedOf m (classIn w)) (askedBy (deedOf m (classIn w)) w x y z))
+    (choose (onceList w) (deedOf m (classIn w)) (askedBy m (deedOf m (classIn w)) w y z))
 
 unfoldable pub readingOf : ℕ → ℕ → ℕ → ℕ → Reading
 unfolding byWord
-readingOf m x y z = byWord m (wordOf x) x y z
+readingOf m x y z = byWord m (wordOf x) y z
 
 -- THE STEP that a reading is, at a place and with these pairs open
 -- The marks, in the order of the kinds, of which there are fewer than 8.

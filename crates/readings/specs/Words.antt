@@ -1,13 +1,11 @@
 -- Printed by tools/print-cell-list.sh from crates/rules/specs/Castilian.antt and tools/readings.txt: change those, and print it again.
--- The word of each cell by its fields, the cells that are letters or signs alone, and the signs of two cells whose first is none by itself. That they are what the
--- rules say is shown by computed tests (proofs/Tested.antt; of letters and signs alone, in the crate `signs`). Assumes nothing.
+-- The word of each cell by its fields, the cells that are letters or signs alone, and what each cell is as the second of a sign of two whose first is none by itself. That
+-- they are what the rules say is shown by computed tests (proofs/Tested.antt; of letters and signs alone, in the crate `signs`). Assumes nothing.
 use Prim.Native.Nat.{ℕ, _+_, _*_, _^_}
 use mathlib.Core.List.{List, [], _∷_}
 use lib.ListN.{getD}
-use Rattle.rules.specs.Cells.{dots}
-use Rattle.entries.specs.Chosen.{choose}
 use Rattle.readings.specs.Modes.{free, lone, mixed, end, hyphen, fem, percent, owing, dash, whole2, num, under}
-use Rattle.readings.specs.Fields.{bToJ, capitalSign, comma, figureSign, letterA, letterO, line, lowOnly, markOrLow, nothing, otherLetter, prefix, separator, sign, signOrLow, stop, usualAt, pointAt, capitalAt, figureAt, lowerAt, kindAt, classAt, thenAt}
+use Rattle.readings.specs.Fields.{bToJ, capitalSign, comma, figureSign, letterA, letterO, line, lowOnly, markOrLow, nothing, otherLetter, prefix, separator, sign, signOrLow, stop, usualAt, pointAt, capitalAt, figureAt, lowerAt, kindAt, classAt, thenAt, secondAt}
 
 -- WHAT A CLASS IS: its number, the mode after it where it is read as usual, and the modes in which it is
 abbrev asLetterA : ℕ
@@ -91,7 +89,7 @@ words =
     -- 1234: P p
     ∷ (asOtherLetter + pointAt * 0x70 + capitalAt * 0x50)
     -- 5
-    ∷ (classAt * separator)
+    ∷ (classAt * separator + kindAt * 0)
     -- 15: 5 E e
     ∷ (asBToJ + pointAt * 0x65 + capitalAt * 0x45 + figureAt * 0x35)
     -- 25: 3 :
@@ -107,7 +105,7 @@ words =
     -- 1235: R r
     ∷ (asOtherLetter + pointAt * 0x72 + capitalAt * 0x52)
     -- 45
-    ∷ (classAt * prefix)
+    ∷ (classAt * prefix + kindAt * 1)
     -- 145: 4 D d
     ∷ (asBToJ + pointAt * 0x64 + capitalAt * 0x44 + figureAt * 0x34)
     -- 245: 0 J j
@@ -123,7 +121,7 @@ words =
     -- 12345: Q q
     ∷ (asOtherLetter + pointAt * 0x71 + capitalAt * 0x51)
     -- 6
-    ∷ (classAt * prefix)
+    ∷ (classAt * prefix + kindAt * 2)
     -- 16
     ∷ nothing
     -- 26: 5 ? ¿
@@ -171,7 +169,7 @@ words =
     -- 12356: Á á
     ∷ (asOtherLetter + pointAt * 0xe1 + capitalAt * 0xc1)
     -- 456
-    ∷ (classAt * prefix)
+    ∷ (classAt * prefix + kindAt * 3)
     -- 1456
     ∷ nothing
     -- 2456: W w
@@ -281,27 +279,139 @@ signsAlone =
 abbrev pub wordOf : ℕ → ℕ
 wordOf c = getD words c 0
 
--- two cells as one number
-abbrev pub paired : ℕ → ℕ → ℕ
-paired first second = first * 64 + second
-
-unfoldable pub twoCells : List (ℕ × ℕ)
-twoCells =
-    (paired (dots 456) (dots 234), 0x24)
-    ∷ (paired (dots 6) (dots 12346), 0x26)
-    ∷ (paired (dots 6) (dots 2), 0x2f)
-    ∷ (paired (dots 5) (dots 13), 0x3c)
-    ∷ (paired (dots 5) (dots 3), 0x5c)
-    ∷ (paired (dots 5) (dots 123), 0x7b)
-    ∷ (paired (dots 456) (dots 2), 0x7d)
-    ∷ (paired (dots 45) (dots 14), 0xa2)
-    ∷ (paired (dots 5) (dots 2346), 0xa3)
-    ∷ (paired (dots 456) (dots 13456), 0xa5)
-    ∷ (paired (dots 5) (dots 1235), 0x2020)
-    ∷ (paired (dots 456) (dots 15), 0x20ac)
-    ∷ (paired (dots 456) (dots 12), 0x20bf)
+-- AS THE SECOND of a sign of two cells, in the order of the cells: the sign for each number of the first, in its field; of a pair mark the opener
+unfoldable pub seconds : List ℕ
+seconds =
+    -- 0
+    0
+    -- 1
+    ∷ 0
+    -- 2: / }
+    ∷ (secondAt 2 * 0x2f + secondAt 3 * 0x7d)
+    -- 12: ₿
+    ∷ (secondAt 3 * 0x20bf)
+    -- 3: \
+    ∷ (secondAt 0 * 0x5c)
+    -- 13: <
+    ∷ (secondAt 0 * 0x3c)
+    -- 23
+    ∷ 0
+    -- 123: {
+    ∷ (secondAt 0 * 0x7b)
+    -- 4
+    ∷ 0
+    -- 14: ¢
+    ∷ (secondAt 1 * 0xa2)
+    -- 24
+    ∷ 0
+    -- 124
+    ∷ 0
+    -- 34
+    ∷ 0
+    -- 134
+    ∷ 0
+    -- 234: $
+    ∷ (secondAt 3 * 0x24)
+    -- 1234
+    ∷ 0
+    -- 5
+    ∷ 0
+    -- 15: €
+    ∷ (secondAt 3 * 0x20ac)
+    -- 25
+    ∷ 0
+    -- 125
+    ∷ 0
+    -- 35
+    ∷ 0
+    -- 135
+    ∷ 0
+    -- 235
+    ∷ 0
+    -- 1235: †
+    ∷ (secondAt 0 * 0x2020)
+    -- 45
+    ∷ 0
+    -- 145
+    ∷ 0
+    -- 245
+    ∷ 0
+    -- 1245
+    ∷ 0
+    -- 345
+    ∷ 0
+    -- 1345
+    ∷ 0
+    -- 2345
+    ∷ 0
+    -- 12345
+    ∷ 0
+    -- 6
+    ∷ 0
+    -- 16
+    ∷ 0
+    -- 26
+    ∷ 0
+    -- 126
+    ∷ 0
+    -- 36
+    ∷ 0
+    -- 136
+    ∷ 0
+    -- 236: ‘
+    ∷ (secondAt 2 * 0x2018)
+    -- 1236
+    ∷ 0
+    -- 46
+    ∷ 0
+    -- 146
+    ∷ 0
+    -- 246
+    ∷ 0
+    -- 1246
+    ∷ 0
+    -- 346
+    ∷ 0
+    -- 1346
+    ∷ 0
+    -- 2346: £
+    ∷ (secondAt 0 * 0xa3)
+    -- 12346: &
+    ∷ (secondAt 2 * 0x26)
+    -- 56
+    ∷ 0
+    -- 156
+    ∷ 0
+    -- 256
+    ∷ 0
+    -- 1256
+    ∷ 0
+    -- 356: %
+    ∷ (secondAt 3 * 0x25)
+    -- 1356
+    ∷ 0
+    -- 2356
+    ∷ 0
+    -- 12356
+    ∷ 0
+    -- 456
+    ∷ 0
+    -- 1456
+    ∷ 0
+    -- 2456
+    ∷ 0
+    -- 12456
+    ∷ 0
+    -- 3456
+    ∷ 0
+    -- 13456: ¥
+    ∷ (secondAt 3 * 0xa5)
+    -- 23456
+    ∷ 0
+    -- 123456
+    ∷ 0
     ∷ []
 
--- the sign of two cells, or 0
-abbrev pub twoOf : ℕ → ℕ → ℕ
-twoOf first second = choose twoCells (paired first second) 0
+-- that of a byte; one that is no cell ends no sign
+abbrev pub secondOf : ℕ → ℕ
+secondOf c = getD seconds c 0

@@ -1,6 +1,6 @@
 // Printed by tools/print-cells.sh from crates/rules/specs/Castilian.antt and tools/readings.txt: change those, and print it again.
-// What a cell may be: its word, by its fields; and the signs of two cells that begin with a cell that is none by itself. The check compares what
-// is read at each with the rules.
+// What a cell may be: its word, by its fields; and its word as the second of a sign of two, which begins with a cell that is none by itself. The check compares
+// what is read at each with the rules.
 use crate::B_TO_J;
 use crate::CAPITAL_AT;
 use crate::CAPITAL_SIGN;
@@ -29,7 +29,9 @@ use crate::OTHER_LETTER;
 use crate::OWING;
 use crate::PERCENT;
 use crate::POINT_AT;
+use crate::POINT_BITS;
 use crate::PREFIX;
+use crate::RUN_BETWEEN;
 use crate::RUN_CAPITAL;
 use crate::RUN_FIGURE;
 use crate::RUN_LOWER;
@@ -43,7 +45,7 @@ use crate::USUAL_AT;
 use crate::WHOLE2;
 ghost use mathlib.Core.Path.{_≡_};
 ghost use Rattle.readings.specs.Fields.{capitalIn, letterIn, insideIn, runIn};
-ghost use Rattle.readings.specs.Words.{wordOf, twoOf};
+ghost use Rattle.readings.specs.Words.{wordOf, secondOf};
 
 // The cells, by their dots.
 pub const D0: u8 = 0;
@@ -347,7 +349,7 @@ const W234: u64 = AS_OTHER_LETTER + POINT_AT * 0x73 + CAPITAL_AT * 0x53; // S s
 
 const W1234: u64 = AS_OTHER_LETTER + POINT_AT * 0x70 + CAPITAL_AT * 0x50; // P p
 
-const W5: u64 = CLASS_AT * SEPARATOR;
+const W5: u64 = CLASS_AT * SEPARATOR + KIND_AT * 0;
 
 const W15: u64 = AS_B_TO_J + POINT_AT * 0x65 + CAPITAL_AT * 0x45 + FIGURE_AT * 0x35; // 5 E e
 
@@ -363,7 +365,7 @@ const W235: u64 = AS_MARK_OR_LOW + LOWER_AT * 0x36 + KIND_AT * 1; // ! 6 ¡
 
 const W1235: u64 = AS_OTHER_LETTER + POINT_AT * 0x72 + CAPITAL_AT * 0x52; // R r
 
-const W45: u64 = CLASS_AT * PREFIX;
+const W45: u64 = CLASS_AT * PREFIX + KIND_AT * 1;
 
 const W145: u64 = AS_B_TO_J + POINT_AT * 0x64 + CAPITAL_AT * 0x44 + FIGURE_AT * 0x34; // 4 D d
 
@@ -379,7 +381,7 @@ const W2345: u64 = AS_OTHER_LETTER + POINT_AT * 0x74 + CAPITAL_AT * 0x54; // T t
 
 const W12345: u64 = AS_OTHER_LETTER + POINT_AT * 0x71 + CAPITAL_AT * 0x51; // Q q
 
-const W6: u64 = CLASS_AT * PREFIX;
+const W6: u64 = CLASS_AT * PREFIX + KIND_AT * 2;
 
 const W26: u64 = AS_MARK_OR_LOW + LOWER_AT * 0x35 + KIND_AT * 0; // 5 ? ¿
 
@@ -413,7 +415,7 @@ const W2356: u64 = AS_SIGN_OR_LOW + POINT_AT * 0x3d + LOWER_AT * 0x37; // 7 =
 
 const W12356: u64 = AS_OTHER_LETTER + POINT_AT * 0xe1 + CAPITAL_AT * 0xc1; // Á á
 
-const W456: u64 = CLASS_AT * PREFIX;
+const W456: u64 = CLASS_AT * PREFIX + KIND_AT * 3;
 
 const W2456: u64 = AS_OTHER_LETTER + POINT_AT * 0x77 + CAPITAL_AT * 0x57; // W w
 
@@ -881,12 +883,15 @@ pub fn inside_number(cell: u8) -> u32
     }
 }
 
-// What a cell is within a run, where each cell is one code point: its digit, its capital and its lower digit, a field for each.
+// What a cell is within a run, where each cell is one code point: its digit, its capital, its lower digit, and the full stop or the comma between two digits, a field
+// for each.
 const R1: u64 = RUN_FIGURE * 0x31 + RUN_CAPITAL * 0x41; // 1 A a ª
 
-const R2: u64 = RUN_LOWER * 0x31; // , 1
+const R2: u64 = RUN_LOWER * 0x31 + RUN_BETWEEN * 0x2c; // , 1
 
 const R12: u64 = RUN_FIGURE * 0x32 + RUN_CAPITAL * 0x42; // 2 B b
+
+const R3: u64 = RUN_BETWEEN * 0x2e; // .
 
 const R13: u64 = RUN_CAPITAL * 0x4b; // K k
 
@@ -976,7 +981,7 @@ pub fn run_word(cell: u8) -> u64
         D1 => R1,
         D2 => R2,
         D12 => R12,
-        D3 => NOTHING,
+        D3 => R3,
         D13 => R13,
         D23 => R23,
         D123 => R123,
@@ -1040,53 +1045,304 @@ pub fn run_word(cell: u8) -> u64
     }
 }
 
-// Two cells as one number.
-const CELL_PLACES: usize = 64;
+// The cells that begin signs of two and are none by themselves, in their order: where the sign of each stands in the word of the second.
+const BEHIND_5: u64 = 1 << (0 * POINT_BITS);
 
-const D456_234: usize = D456 as usize * CELL_PLACES + D234 as usize;
+const BEHIND_45: u64 = 1 << (1 * POINT_BITS);
 
-const D6_12346: usize = D6 as usize * CELL_PLACES + D12346 as usize;
+const BEHIND_6: u64 = 1 << (2 * POINT_BITS);
 
-const D6_2: usize = D6 as usize * CELL_PLACES + D2 as usize;
+const BEHIND_456: u64 = 1 << (3 * POINT_BITS);
 
-const D5_13: usize = D5 as usize * CELL_PLACES + D13 as usize;
+// The words of the second cells. Of a pair mark the opener stands for both.
+const S2: u64 = BEHIND_6 * 0x2f + BEHIND_456 * 0x7d; // / }
 
-const D5_3: usize = D5 as usize * CELL_PLACES + D3 as usize;
+const S12: u64 = BEHIND_456 * 0x20bf; // ₿
 
-const D5_123: usize = D5 as usize * CELL_PLACES + D123 as usize;
+const S3: u64 = BEHIND_5 * 0x5c; // \
 
-const D456_2: usize = D456 as usize * CELL_PLACES + D2 as usize;
+const S13: u64 = BEHIND_5 * 0x3c; // <
 
-const D45_14: usize = D45 as usize * CELL_PLACES + D14 as usize;
+const S123: u64 = BEHIND_5 * 0x7b; // {
 
-const D5_2346: usize = D5 as usize * CELL_PLACES + D2346 as usize;
+const S14: u64 = BEHIND_45 * 0xa2; // ¢
 
-const D456_13456: usize = D456 as usize * CELL_PLACES + D13456 as usize;
+const S234: u64 = BEHIND_456 * 0x24; // $
 
-const D5_1235: usize = D5 as usize * CELL_PLACES + D1235 as usize;
+const S15: u64 = BEHIND_456 * 0x20ac; // €
 
-const D456_15: usize = D456 as usize * CELL_PLACES + D15 as usize;
+const S1235: u64 = BEHIND_5 * 0x2020; // †
 
-const D456_12: usize = D456 as usize * CELL_PLACES + D12 as usize;
+const S236: u64 = BEHIND_6 * 0x2018; // ‘
 
-// The sign of two cells, or NO_POINT.
-pub fn two_cells(first: u8, second: u8) -> u32
-    ensures { λ r. ⌜ r ≡ twoOf first second ⌝ }
+const S2346: u64 = BEHIND_5 * 0xa3; // £
+
+const S12346: u64 = BEHIND_6 * 0x26; // &
+
+const S356: u64 = BEHIND_456 * 0x25; // %
+
+const S13456: u64 = BEHIND_456 * 0xa5; // ¥
+
+// What a cell is as the second of a sign of two. (Every byte is named, as above.)
+pub fn second_word(cell: u8) -> u64
+    ensures { λ r. ⌜ r ≡ secondOf cell ⌝ }
 {
-    match first as usize * CELL_PLACES + second as usize {
-        D456_234 => 0x24, // $
-        D6_12346 => 0x26, // &
-        D6_2 => 0x2f, // /
-        D5_13 => 0x3c, // <
-        D5_3 => 0x5c, // \
-        D5_123 => 0x7b, // {
-        D456_2 => 0x7d, // }
-        D45_14 => 0xa2, // ¢
-        D5_2346 => 0xa3, // £
-        D456_13456 => 0xa5, // ¥
-        D5_1235 => 0x2020, // †
-        D456_15 => 0x20ac, // €
-        D456_12 => 0x20bf, // ₿
-        _ => NO_POINT,
+    match cell {
+        D0 => NOTHING,
+        D1 => NOTHING,
+        D2 => S2,
+        D12 => S12,
+        D3 => S3,
+        D13 => S13,
+        D23 => NOTHING,
+        D123 => S123,
+        D4 => NOTHING,
+        D14 => S14,
+        D24 => NOTHING,
+        D124 => NOTHING,
+        D34 => NOTHING,
+        D134 => NOTHING,
+        D234 => S234,
+        D1234 => NOTHING,
+        D5 => NOTHING,
+        D15 => S15,
+        D25 => NOTHING,
+        D125 => NOTHING,
+        D35 => NOTHING,
+        D135 => NOTHING,
+        D235 => NOTHING,
+        D1235 => S1235,
+        D45 => NOTHING,
+        D145 => NOTHING,
+        D245 => NOTHING,
+        D1245 => NOTHING,
+        D345 => NOTHING,
+        D1345 => NOTHING,
+        D2345 => NOTHING,
+        D12345 => NOTHING,
+        D6 => NOTHING,
+        D16 => NOTHING,
+        D26 => NOTHING,
+        D126 => NOTHING,
+        D36 => NOTHING,
+        D136 => NOTHING,
+        D236 => S236,
+        D1236 => NOTHING,
+        D46 => NOTHING,
+        D146 => NOTHING,
+        D246 => NOTHING,
+        D1246 => NOTHING,
+        D346 => NOTHING,
+        D1346 => NOTHING,
+        D2346 => S2346,
+        D12346 => S12346,
+        D56 => NOTHING,
+        D156 => NOTHING,
+        D256 => NOTHING,
+        D1256 => NOTHING,
+        D356 => S356,
+        D1356 => NOTHING,
+        D2356 => NOTHING,
+        D12356 => NOTHING,
+        D456 => NOTHING,
+        D1456 => NOTHING,
+        D2456 => NOTHING,
+        D12456 => NOTHING,
+        D3456 => NOTHING,
+        D13456 => S13456,
+        D23456 => NOTHING,
+        D123456 => NOTHING,
+        64 => NOTHING, // from here on no cells
+        65 => NOTHING,
+        66 => NOTHING,
+        67 => NOTHING,
+        68 => NOTHING,
+        69 => NOTHING,
+        70 => NOTHING,
+        71 => NOTHING,
+        72 => NOTHING,
+        73 => NOTHING,
+        74 => NOTHING,
+        75 => NOTHING,
+        76 => NOTHING,
+        77 => NOTHING,
+        78 => NOTHING,
+        79 => NOTHING,
+        80 => NOTHING,
+        81 => NOTHING,
+        82 => NOTHING,
+        83 => NOTHING,
+        84 => NOTHING,
+        85 => NOTHING,
+        86 => NOTHING,
+        87 => NOTHING,
+        88 => NOTHING,
+        89 => NOTHING,
+        90 => NOTHING,
+        91 => NOTHING,
+        92 => NOTHING,
+        93 => NOTHING,
+        94 => NOTHING,
+        95 => NOTHING,
+        96 => NOTHING,
+        97 => NOTHING,
+        98 => NOTHING,
+        99 => NOTHING,
+        100 => NOTHING,
+        101 => NOTHING,
+        102 => NOTHING,
+        103 => NOTHING,
+        104 => NOTHING,
+        105 => NOTHING,
+        106 => NOTHING,
+        107 => NOTHING,
+        108 => NOTHING,
+        109 => NOTHING,
+        110 => NOTHING,
+        111 => NOTHING,
+        112 => NOTHING,
+        113 => NOTHING,
+        114 => NOTHING,
+        115 => NOTHING,
+        116 => NOTHING,
+        117 => NOTHING,
+        118 => NOTHING,
+        119 => NOTHING,
+        120 => NOTHING,
+        121 => NOTHING,
+        122 => NOTHING,
+        123 => NOTHING,
+        124 => NOTHING,
+        125 => NOTHING,
+        126 => NOTHING,
+        127 => NOTHING,
+        128 => NOTHING,
+        129 => NOTHING,
+        130 => NOTHING,
+        131 => NOTHING,
+        132 => NOTHING,
+        133 => NOTHING,
+        134 => NOTHING,
+        135 => NOTHING,
+        136 => NOTHING,
+        137 => NOTHING,
+        138 => NOTHING,
+        139 => NOTHING,
+        140 => NOTHING,
+        141 => NOTHING,
+        142 => NOTHING,
+        143 => NOTHING,
+        144 => NOTHING,
+        145 => NOTHING,
+        146 => NOTHING,
+        147 => NOTHING,
+        148 => NOTHING,
+        149 => NOTHING,
+        150 => NOTHING,
+        151 => NOTHING,
+        152 => NOTHING,
+        153 => NOTHING,
+        154 => NOTHING,
+        155 => NOTHING,
+        156 => NOTHING,
+        157 => NOTHING,
+        158 => NOTHING,
+        159 => NOTHING,
+        160 => NOTHING,
+        161 => NOTHING,
+        162 => NOTHING,
+        163 => NOTHING,
+        164 => NOTHING,
+        165 => NOTHING,
+        166 => NOTHING,
+        167 => NOTHING,
+        168 => NOTHING,
+        169 => NOTHING,
+        170 => NOTHING,
+        171 => NOTHING,
+        172 => NOTHING,
+        173 => NOTHING,
+        174 => NOTHING,
+        175 => NOTHING,
+        176 => NOTHING,
+        177 => NOTHING,
+        178 => NOTHING,
+        179 => NOTHING,
+        180 => NOTHING,
+        181 => NOTHING,
+        182 => NOTHING,
+        183 => NOTHING,
+        184 => NOTHING,
+        185 => NOTHING,
+        186 => NOTHING,
+        187 => NOTHING,
+        188 => NOTHING,
+        189 => NOTHING,
+        190 => NOTHING,
+        191 => NOTHING,
+        192 => NOTHING,
+        193 => NOTHING,
+        194 => NOTHING,
+        195 => NOTHING,
+        196 => NOTHING,
+        197 => NOTHING,
+        198 => NOTHING,
+        199 => NOTHING,
+        200 => NOTHING,
+        201 => NOTHING,
+        202 => NOTHING,
+        203 => NOTHING,
+        204 => NOTHING,
+        205 => NOTHING,
+        206 => NOTHING,
+        207 => NOTHING,
+        208 => NOTHING,
+        209 => NOTHING,
+        210 => NOTHING,
+        211 => NOTHING,
+        212 => NOTHING,
+        213 => NOTHING,
+        214 => NOTHING,
+        215 => NOTHING,
+        216 => NOTHING,
+        217 => NOTHING,
+        218 => NOTHING,
+        219 => NOTHING,
+        220 => NOTHING,
+        221 => NOTHING,
+        222 => NOTHING,
+        223 => NOTHING,
+        224 => NOTHING,
+        225 => NOTHING,
+        226 => NOTHING,
+        227 => NOTHING,
+        228 => NOTHING,
+        229 => NOTHING,
+        230 => NOTHING,
+        231 => NOTHING,
+        232 => NOTHING,
+        233 => NOTHING,
+        234 => NOTHING,
+        235 => NOTHING,
+        236 => NOTHING,
+        237 => NOTHING,
+        238 => NOTHING,
+        239 => NOTHING,
+        240 => NOTHING,
+        241 => NOTHING,
+        242 => NOTHING,
+        243 => NOTHING,
+        244 => NOTHING,
+        245 => NOTHING,
+        246 => NOTHING,
+        247 => NOTHING,
+        248 => NOTHING,
+        249 => NOTHING,
+        250 => NOTHING,
+        251 => NOTHING,
+        252 => NOTHING,
+        253 => NOTHING,
+        254 => NOTHING,
+        _ => NOTHING,
     }
 }

@@ -108,7 +108,7 @@ pub const DENOMINATOR: usize = 6;
 
 pub const MASCULINE_MARK: usize = 7;
 
-// The questions, which the cells that follow decide. Those from BEGINS_RUN on are about 46.
+// The questions, which the cells that follow decide.
 pub const POINT: usize = 8;
 
 pub const ONE_OR_FEMININE: usize = 9;
@@ -119,25 +119,17 @@ pub const DASH_ONLY: usize = 11;
 
 pub const NUMBER_SIGN: usize = 12;
 
-pub const SEPARATES: usize = 13;
+pub const CAPITAL: usize = 13;
 
-pub const PREFIXED: usize = 14;
+pub const SEPARATES: usize = 14;
 
-pub const BEGINS_RUN: usize = 15;
-
-pub const RUN_GOES_ON: usize = 16;
-
-pub const SECOND_CAPITAL: usize = 17;
-
-pub const OWED_CAPITAL: usize = 18;
-
-pub const GREATER_ONLY: usize = 19;
+pub const PREFIXED: usize = 15;
 
 // The fields of a cell's word, from the lowest: where each stands, and how many values it has room for. What is asked of most cells is where the machine
 // finds it at once: the modes lowest, the mode after it highest.
 const USUAL_AT: u64 = 1;
 
-const MODE_PLACES: usize = 16;
+pub const MODE_PLACES: usize = 16;
 
 const POINT_AT: u64 = 65536;
 
@@ -169,6 +161,11 @@ const RUN_FIGURE: u64 = 1;
 const RUN_CAPITAL: u64 = 65536;
 
 const RUN_LOWER: u64 = 4294967296;
+
+const RUN_BETWEEN: u64 = 281474976710656;
+
+// How many bits a code point has in a cell's word within a run, and in its word as the second of a sign.
+pub const POINT_BITS: usize = 16;
 
 // How many classes a row of the table has room for.
 const TABLE_ROW: usize = 16;
@@ -217,7 +214,7 @@ pub fn lower_in(word: u64) -> u32
     (word / LOWER_AT % FIGURE_PLACES) as u32
 }
 
-// The kind of a pair mark.
+// The kind of a pair mark; and of a cell that begins signs of two its number among those.
 pub fn kind_in(word: u64) -> usize
     ensures { λ r. ⌜ r ≡ kindIn word ⌝ }
 {

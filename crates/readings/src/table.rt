@@ -2,24 +2,20 @@
 // What is read at a place, by the mode and the class of the cell: 16 rows of 16. Where there is no row or no class of a number,
 // there is no sign.
 use crate::AS_USUAL;
-use crate::BEGINS_RUN;
+use crate::CAPITAL;
 use crate::CAPITAL_OF_MANY;
 use crate::DASH_ONLY;
 use crate::DENOMINATOR;
 use crate::DIGIT;
 use crate::DIGIT_UNDER;
-use crate::GREATER_ONLY;
 use crate::HYPHEN_OR_DASH;
 use crate::LOWER_DIGIT;
 use crate::MASCULINE_MARK;
 use crate::NO_SIGN;
 use crate::NUMBER_SIGN;
 use crate::ONE_OR_FEMININE;
-use crate::OWED_CAPITAL;
 use crate::POINT;
 use crate::PREFIXED;
-use crate::RUN_GOES_ON;
-use crate::SECOND_CAPITAL;
 use crate::SEPARATES;
 ghost use mathlib.Core.Path.{_≡_};
 ghost use Prim.Native.Nat.{_<_};
@@ -46,7 +42,7 @@ pub fn deed_at(place: usize) -> usize
         9 => NO_SIGN, // LOW_ONLY a lower digit
         10 => AS_USUAL, // SIGN a sign
         11 => HYPHEN_OR_DASH, // LINE 36: a hyphen, or half of U+2014
-        12 => BEGINS_RUN, // CAPITAL_SIGN 46
+        12 => CAPITAL, // CAPITAL_SIGN 46
         13 => NUMBER_SIGN, // FIGURE_SIGN 3456
         14 => PREFIXED, // SEPARATOR 5
         15 => PREFIXED, // PREFIX another cell with which longer signs begin
@@ -63,7 +59,7 @@ pub fn deed_at(place: usize) -> usize
         25 => NO_SIGN, // LOW_ONLY a lower digit
         26 => AS_USUAL, // SIGN a sign
         27 => HYPHEN_OR_DASH, // LINE 36: a hyphen, or half of U+2014
-        28 => SECOND_CAPITAL, // CAPITAL_SIGN 46
+        28 => CAPITAL, // CAPITAL_SIGN 46
         29 => NUMBER_SIGN, // FIGURE_SIGN 3456
         30 => PREFIXED, // SEPARATOR 5
         31 => PREFIXED, // PREFIX another cell with which longer signs begin
@@ -80,7 +76,7 @@ pub fn deed_at(place: usize) -> usize
         41 => NO_SIGN, // LOW_ONLY a lower digit
         42 => AS_USUAL, // SIGN a sign
         43 => HYPHEN_OR_DASH, // LINE 36: a hyphen, or half of U+2014
-        44 => RUN_GOES_ON, // CAPITAL_SIGN 46
+        44 => CAPITAL, // CAPITAL_SIGN 46
         45 => NUMBER_SIGN, // FIGURE_SIGN 3456
         46 => PREFIXED, // SEPARATOR 5
         47 => PREFIXED, // PREFIX another cell with which longer signs begin
@@ -131,7 +127,7 @@ pub fn deed_at(place: usize) -> usize
         89 => NO_SIGN, // LOW_ONLY a lower digit
         90 => AS_USUAL, // SIGN a sign
         91 => HYPHEN_OR_DASH, // LINE 36: a hyphen, or half of U+2014
-        92 => BEGINS_RUN, // CAPITAL_SIGN 46
+        92 => CAPITAL, // CAPITAL_SIGN 46
         93 => NO_SIGN, // FIGURE_SIGN 3456
         94 => PREFIXED, // SEPARATOR 5
         95 => PREFIXED, // PREFIX another cell with which longer signs begin
@@ -148,7 +144,7 @@ pub fn deed_at(place: usize) -> usize
         105 => NO_SIGN, // LOW_ONLY a lower digit
         106 => AS_USUAL, // SIGN a sign
         107 => NO_SIGN, // LINE 36: a hyphen, or half of U+2014
-        108 => BEGINS_RUN, // CAPITAL_SIGN 46
+        108 => CAPITAL, // CAPITAL_SIGN 46
         109 => NUMBER_SIGN, // FIGURE_SIGN 3456
         110 => PREFIXED, // SEPARATOR 5
         111 => PREFIXED, // PREFIX another cell with which longer signs begin
@@ -165,7 +161,7 @@ pub fn deed_at(place: usize) -> usize
         121 => NO_SIGN, // LOW_ONLY a lower digit
         122 => AS_USUAL, // SIGN a sign
         123 => HYPHEN_OR_DASH, // LINE 36: a hyphen, or half of U+2014
-        124 => BEGINS_RUN, // CAPITAL_SIGN 46
+        124 => CAPITAL, // CAPITAL_SIGN 46
         125 => NUMBER_SIGN, // FIGURE_SIGN 3456
         126 => PREFIXED, // SEPARATOR 5
         127 => PREFIXED, // PREFIX another cell with which longer signs begin
@@ -182,7 +178,7 @@ pub fn deed_at(place: usize) -> usize
         137 => NO_SIGN, // LOW_ONLY a lower digit
         138 => AS_USUAL, // SIGN a sign
         139 => HYPHEN_OR_DASH, // LINE 36: a hyphen, or half of U+2014
-        140 => BEGINS_RUN, // CAPITAL_SIGN 46
+        140 => CAPITAL, // CAPITAL_SIGN 46
         141 => NUMBER_SIGN, // FIGURE_SIGN 3456
         142 => PREFIXED, // SEPARATOR 5
         143 => PREFIXED, // PREFIX another cell with which longer signs begin
@@ -199,7 +195,7 @@ pub fn deed_at(place: usize) -> usize
         153 => NO_SIGN, // LOW_ONLY a lower digit
         154 => NO_SIGN, // SIGN a sign
         155 => NO_SIGN, // LINE 36: a hyphen, or half of U+2014
-        156 => OWED_CAPITAL, // CAPITAL_SIGN 46
+        156 => CAPITAL, // CAPITAL_SIGN 46
         157 => NO_SIGN, // FIGURE_SIGN 3456
         158 => NO_SIGN, // SEPARATOR 5
         159 => NO_SIGN, // PREFIX another cell with which longer signs begin
@@ -216,7 +212,7 @@ pub fn deed_at(place: usize) -> usize
         169 => NO_SIGN, // LOW_ONLY a lower digit
         170 => AS_USUAL, // SIGN a sign
         171 => DASH_ONLY, // LINE 36: a hyphen, or half of U+2014
-        172 => BEGINS_RUN, // CAPITAL_SIGN 46
+        172 => CAPITAL, // CAPITAL_SIGN 46
         173 => NUMBER_SIGN, // FIGURE_SIGN 3456
         174 => PREFIXED, // SEPARATOR 5
         175 => PREFIXED, // PREFIX another cell with which longer signs begin
@@ -233,7 +229,7 @@ pub fn deed_at(place: usize) -> usize
         185 => NO_SIGN, // LOW_ONLY a lower digit
         186 => AS_USUAL, // SIGN a sign
         187 => HYPHEN_OR_DASH, // LINE 36: a hyphen, or half of U+2014
-        188 => GREATER_ONLY, // CAPITAL_SIGN 46
+        188 => CAPITAL, // CAPITAL_SIGN 46
         189 => NUMBER_SIGN, // FIGURE_SIGN 3456
         190 => PREFIXED, // SEPARATOR 5
         191 => PREFIXED, // PREFIX another cell with which longer signs begin
@@ -250,7 +246,7 @@ pub fn deed_at(place: usize) -> usize
         201 => NO_SIGN, // LOW_ONLY a lower digit
         202 => AS_USUAL, // SIGN a sign
         203 => HYPHEN_OR_DASH, // LINE 36: a hyphen, or half of U+2014
-        204 => BEGINS_RUN, // CAPITAL_SIGN 46
+        204 => CAPITAL, // CAPITAL_SIGN 46
         205 => NO_SIGN, // FIGURE_SIGN 3456
         206 => SEPARATES, // SEPARATOR 5
         207 => PREFIXED, // PREFIX another cell with which longer signs begin
@@ -284,7 +280,7 @@ pub fn deed_at(place: usize) -> usize
         233 => NO_SIGN, // LOW_ONLY a lower digit
         234 => AS_USUAL, // SIGN a sign
         235 => HYPHEN_OR_DASH, // LINE 36: a hyphen, or half of U+2014
-        236 => BEGINS_RUN, // CAPITAL_SIGN 46
+        236 => CAPITAL, // CAPITAL_SIGN 46
         237 => NO_SIGN, // FIGURE_SIGN 3456
         238 => SEPARATES, // SEPARATOR 5
         239 => PREFIXED, // PREFIX another cell with which longer signs begin

@@ -1,6 +1,6 @@
 -- Printed by tools/print-words-proof.sh: change that.
 -- `cells::word_of`: at each byte that is named antt computes both sides; the last is no cell, and has no word. Assumes nothing.
-use mathlib.Core.Path.{sym, ap}
+use mathlib.Core.Path.{refl, sym, ap}
 use native.Mathlib.Omega.{arith}
 use Rattle.entries.proofs.Places.{upto}
 use Rattle.readings.specs.Words.{words, wordOf}
@@ -9,8 +9,8 @@ use Rattle.readings.proofs.cells.word_of.Statement.{statement}
 use Rattle.readings.proofs.cells.word_of.Tie as tie
 
 last : tie.Need-returns-256
-unfolding upto
-last c = no-word 255 (omega arith) (c .before .args .cell) (c .match .rest)
+unfolding upto words
+last c = no-word words refl 255 (omega arith) (c .before .args .cell) (c .match .rest)
 
 pub word-of-spec : {M : Type 1} → statement M
 unfolding words
