@@ -123,13 +123,16 @@ thenIn w = w / thenAt
 abbrev pub usualIn : ℕ → ℕ → Bool
 usualIn w m = eqb (w / 2 ^ (m % 64) % 2) 1
 
--- WITHIN A RUN, where each cell is one code point: the digit, the capital and the lower digit of a word, and what it is between two digits, 16 bits for each; the
--- field that a run asks for
+-- WITHIN A RUN, where each cell is one code point: the digit, the capital and the lower digit of a word, and what it is between two digits, 16 bits for each; a
+-- field of 16 bits; the one that a run asks for
 abbrev pub runIn : ℕ → ℕ
 runIn w = figureIn w + 65536 * capitalIn w + 4294967296 * lowerIn w + 281474976710656 * betweenIn w
 
+abbrev pub fieldIn : ℕ → ℕ → ℕ
+fieldIn v at = v / 2 ^ (at % 64) % 65536
+
 abbrev pub runPoint : ℕ → ℕ → ℕ
-runPoint w run = runIn w / 2 ^ (run % 64) % 65536
+runPoint w run = fieldIn (runIn w) run
 
 -- AS THE SECOND of a sign of two cells: where the field for the first stands, by its number (its `kindIn`)
 abbrev pub secondAt : ℕ → ℕ

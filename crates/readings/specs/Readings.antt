@@ -2,7 +2,7 @@
 -- place; the step that it is. These are the inner functions' promises: that a reading is what the rules find is shown in proofs/. Assumes nothing.
 use mathlib.Core.Bool.{Bool, cond, not, _&&_}
 use mathlib.Core.List.{List, [], _∷_}
-use Prim.Native.Nat.{ℕ, _+_, _*_, _/_, _%_, _^_}
+use Prim.Native.Nat.{ℕ, _+_, _*_, _%_}
 use Prim.Native.Char.{code}
 use lib.Dec.{eqb}
 use lib.ListN.{getD}
@@ -11,7 +11,7 @@ use Rattle.entries.specs.Chosen.{choose}
 use Rattle.pairs.specs.Opened.{isOpen, turnedBy}
 use Rattle.readings.specs.Modes as mode
 use Rattle.readings.specs.Acts as act
-use Rattle.readings.specs.Fields.{deedOf, classIn, pointIn, capitalIn, figureIn, lowerIn, kindIn, thenIn, usualIn, cellOf}
+use Rattle.readings.specs.Fields.{deedOf, classIn, pointIn, capitalIn, figureIn, lowerIn, kindIn, thenIn, usualIn, fieldIn, cellOf}
 use Rattle.readings.specs.Words.{wordOf, secondOf}
 use Rattle.readings.specs.declared.Step.{Step}
 use Rattle.readings.specs.declared.Step.the-variants as step
@@ -97,7 +97,7 @@ innerQuotes = 3
 
 -- the sign of two cells, or `noPoint`, w being the word of the first; of a pair mark the opener
 unfoldable pub twoOf : ℕ → ℕ → ℕ
-twoOf w y = secondOf y / 2 ^ (kindIn w * 16 % 64) % 65536
+twoOf w y = fieldIn (secondOf y) (kindIn w * 16)
 
 abbrev pub twoList : ℕ → List (ℕ × Reading)
 twoList z = (noPoint, nothing) ∷ (code "%", percentBy z) ∷ (code "‘", aMark innerQuotes 2) ∷ []

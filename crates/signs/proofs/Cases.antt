@@ -3,7 +3,7 @@ use mathlib.Core.Path.{_≡_, refl, sym, _∙_, ap, subst}
 use mathlib.Core.Bool.{Bool, true, false, _&&_, _||_, not, cond, true≢false, Bool·beq}
 use mathlib.Core.List.{List, [], _∷_}
 use mathlib.Core.Logic.{_⊎_, inl, inr, ⊎-elim}
-use Prim.Native.Nat.{ℕ, zero, suc, _+_, _/_, _%_, _^_, _≤_, _<_}
+use Prim.Native.Nat.{ℕ, zero, suc, _+_, _*_, _/_, _%_, _^_, _≤_, _<_}
 use Prim.Native.Char.{code}
 use native.Mathlib.Omega.{arith}
 use native.Mathlib.Nat.{not-suc-le-zero, le-of-suc-le-suc}
@@ -22,11 +22,11 @@ use Rattle.readings.specs.Modes.{modeOf, modeCount}
 use Rattle.readings.specs.Acts as act
 use Rattle.readings.specs.Deeds.{deeds}
 use Rattle.readings.specs.Fields.{deedOf, classIn, pointIn, capitalIn, figureIn, lowerIn, letterIn, insideIn, kindIn, thenIn, usualIn, runPoint, noCell, cellOf}
-use Rattle.readings.specs.Words.{words, lettersAlone, signsAlone, wordOf, twoOf}
-use Rattle.readings.specs.Readings.{noPoint, Reading, reads, one, usualBy, onceList, digitCell, capitalModes, capitalBy, numberBy, percentBy, innerQuotes, longerBy, prefixBy, askList, askedBy, readingOf, byWord, openerOf, closerOf, markStep, stepOf, stepAt}
+use Rattle.readings.specs.Words.{words, lettersAlone, signsAlone, wordOf}
+use Rattle.readings.specs.Readings.{noPoint, Reading, reads, one, usualBy, onceList, digitCell, capitalModes, afterCapital, capitalBy, numberBy, percentBy, innerQuotes, twoOf, twoList, longerBy, prefixBy, askList, askedBy, readingOf, byWord, openerOf, closerOf, markStep, stepOf, stepAt}
 use Rattle.readings.specs.Readings as reading
 use Rattle.signs.specs.Among.{digitCells, lowerCells, cellAmong, lowerCell, aloneCell}
-use Rattle.signs.specs.Runs.{noRun, runOf, homeOf, Quick, InRun}
+use Rattle.signs.specs.Runs.{between, noRun, runOf, homeOf, Quick, InRun}
 use Rattle.readings.specs.declared.Step.{Step}
 use Rattle.readings.specs.declared.Step.the-variants as variant
 use Rattle.readings.proofs.Words.{past-words}
@@ -179,60 +179,63 @@ module _ (at o z : ℕ) where
   unfolding percentBy
   percent-alone n = rw (ne-eqb z (dots 356) n)
 
--- AFTER 46
-module _ (at o d y z : ℕ) where
+-- AFTER 46: the mode after a capital, by the mode before it, is what the code's number has
+abbrev pub afterCapitals : ℕ
+afterCapitals = 72340791582786193
+
+afters-right : T (below (λ n. eqb (afterCapitals / 2 ^ (n * 4) % 16) (getD capitalModes n mode.free)) modeCount)
+afters-right = tt
+
+pub after-told : (m : ℕ) → afterCapitals / 2 ^ (m % 16 * 4) % 16 ≡ afterCapital m
+unfolding afterCapital
+after-told m =
+    eqb→eq (afterCapitals / 2 ^ (m % 16 * 4) % 16) (getD capitalModes (m % 16) mode.free)
+    (at-below (λ n. eqb (afterCapitals / 2 ^ (n * 4) % 16) (getD capitalModes n mode.free)) modeCount afters-right (m % 16) (omega arith))
+
+module _ (at o m y z : ℕ) where
   module _ (a : y ≡ dots 46) (f : ℕ) (e : f ≡ capitalIn (wordOf z)) where
-    pub run-none : f ≡ noPoint → variant.Nothing ≡ stepOf at o (capitalBy d y z)
+    pub run-none : f ≡ noPoint → variant.Nothing ≡ stepOf at o (capitalBy m y z)
     unfolding capitalBy
     run-none n = rw (eq-eqb y (dots 46) a, eq-eqb (capitalIn (wordOf z)) noPoint (sym e ∙ n))
 
-    pub run-first : (f ≡ noPoint → ⊥) → d ≡ act.beginsRun → variant.Sign noPoint f (at + 3) mode.whole1 o ≡ stepOf at o (capitalBy d y z)
+    pub run-first : (f ≡ noPoint → ⊥) → afterCapital m ≡ mode.lone → variant.Sign noPoint f (at + 3) mode.whole1 o ≡ stepOf at o (capitalBy m y z)
     unfolding capitalBy
-    run-first n q = rw (eq-eqb y (dots 46) a, ne-eqb (capitalIn (wordOf z)) noPoint (λ h. n (e ∙ h)), eq-eqb d act.beginsRun q, e)
+    run-first n q = rw (eq-eqb y (dots 46) a, ne-eqb (capitalIn (wordOf z)) noPoint (λ h. n (e ∙ h)), eq-eqb (afterCapital m) mode.lone q, e)
 
-    pub run-barred : (f ≡ noPoint → ⊥) → (d ≡ act.beginsRun → ⊥) → variant.Nothing ≡ stepOf at o (capitalBy d y z)
+    pub run-barred : (f ≡ noPoint → ⊥) → (afterCapital m ≡ mode.lone → ⊥) → variant.Nothing ≡ stepOf at o (capitalBy m y z)
     unfolding capitalBy
-    run-barred n q = rw (eq-eqb y (dots 46) a, ne-eqb (capitalIn (wordOf z)) noPoint (λ h. n (e ∙ h)), ne-eqb d act.beginsRun q)
+    run-barred n q = rw (eq-eqb y (dots 46) a, ne-eqb (capitalIn (wordOf z)) noPoint (λ h. n (e ∙ h)), ne-eqb (afterCapital m) mode.lone q)
 
   module _ (a : y ≡ dots 46 → ⊥) where
     module _ (b : y ≡ dots 2) where
-      pub greater-owed : d ≡ act.owedCapital → variant.Nothing ≡ stepOf at o (capitalBy d y z)
+      pub greater-owed : m ≡ mode.owing → variant.Nothing ≡ stepOf at o (capitalBy m y z)
       unfolding capitalBy
-      greater-owed q = rw (ne-eqb y (dots 46) a, eq-eqb y (dots 2) b, eq-eqb d act.owedCapital q)
+      greater-owed q = rw (ne-eqb y (dots 46) a, eq-eqb y (dots 2) b, eq-eqb m mode.owing q)
 
-      pub greater : (d ≡ act.owedCapital → ⊥) → variant.Sign noPoint (code ">") (at + 2) mode.free o ≡ stepOf at o (capitalBy d y z)
+      pub greater : (m ≡ mode.owing → ⊥) → variant.Sign noPoint (code ">") (at + 2) mode.free o ≡ stepOf at o (capitalBy m y z)
       unfolding capitalBy
-      greater q = rw (ne-eqb y (dots 46) a, eq-eqb y (dots 2) b, ne-eqb d act.owedCapital q)
+      greater q = rw (ne-eqb y (dots 46) a, eq-eqb y (dots 2) b, ne-eqb m mode.owing q)
 
     module _ (b : y ≡ dots 2 → ⊥) (f : ℕ) (e : f ≡ capitalIn (wordOf y)) where
-      pub letter-none : f ≡ noPoint → variant.Nothing ≡ stepOf at o (capitalBy d y z)
+      pub letter-none : f ≡ noPoint → variant.Nothing ≡ stepOf at o (capitalBy m y z)
       unfolding capitalBy
       letter-none n = rw (ne-eqb y (dots 46) a, ne-eqb y (dots 2) b, eq-eqb (capitalIn (wordOf y)) noPoint (sym e ∙ n))
 
       module _ (n : f ≡ noPoint → ⊥) where
-        by-letter : (x : Reading) → choose (capitalModes f) d (one f 2 mode.owing) ≡ x → stepOf at o x ≡ stepOf at o (capitalBy d y z)
+        pub letter-barred : afterCapital m ≡ mode.free → variant.Nothing ≡ stepOf at o (capitalBy m y z)
         unfolding capitalBy
-        by-letter x q =
-            sym
-            (rw (ne-eqb y (dots 46) a, ne-eqb y (dots 2) b, ne-eqb (capitalIn (wordOf y)) noPoint (λ h. n (e ∙ h)))
-            (ap (λ (g : ℕ). stepOf at o (choose (capitalModes g) d (one g 2 mode.owing))) (sym e) ∙ ap (stepOf at o) q))
+        letter-barred q =
+            rw (ne-eqb y (dots 46) a, ne-eqb y (dots 2) b, ne-eqb (capitalIn (wordOf y)) noPoint (λ h. n (e ∙ h)), eq-eqb (afterCapital m) mode.free q)
 
-        pub letter-begins : d ≡ act.beginsRun → variant.Sign noPoint f (at + 2) mode.lone o ≡ stepOf at o (capitalBy d y z)
-        letter-begins q = by-letter (one f 2 mode.lone) (rw q)
+        pub letter-stands : (afterCapital m ≡ mode.free → ⊥) → variant.Sign noPoint f (at + 2) (afterCapital m) o ≡ stepOf at o (capitalBy m y z)
+        unfolding capitalBy
+        letter-stands q =
+            rw (ne-eqb y (dots 46) a, ne-eqb y (dots 2) b, ne-eqb (capitalIn (wordOf y)) noPoint (λ h. n (e ∙ h)), ne-eqb (afterCapital m) mode.free q, e)
 
-        pub letter-mixed : d ≡ act.runGoesOn → variant.Sign noPoint f (at + 2) mode.mixed o ≡ stepOf at o (capitalBy d y z)
-        letter-mixed q = by-letter (one f 2 mode.mixed) (rw q)
-
-        pub letter-barred : d ≡ act.greaterOnly → variant.Nothing ≡ stepOf at o (capitalBy d y z)
-        letter-barred q = by-letter reading.nothing (rw q)
-
-        pub letter-owes : Rest Unit (keysOf (capitalModes f)) d → variant.Sign noPoint f (at + 2) mode.owing o ≡ stepOf at o (capitalBy d y z)
-        letter-owes r = by-letter (one f 2 mode.owing) (chosen-rest (capitalModes f) d (one f 2 mode.owing) r)
-
--- A LONGER SIGN
-module _ (at o d x y z : ℕ) where
+-- A LONGER SIGN, w being the word of its first cell
+module _ (at o d w y z : ℕ) where
   pub separated-letter : d ≡ act.separates → digitCell y ≡ true → (p : ℕ) → p ≡ letterIn (wordOf y)
-      → variant.Sign noPoint p (at + 2) mode.mixed o ≡ stepOf at o (prefixBy d x y z)
+      → variant.Sign noPoint p (at + 2) mode.mixed o ≡ stepOf at o (prefixBy d w y z)
   unfolding prefixBy
   separated-letter q t p h = ap (λ (n : ℕ). variant.Sign noPoint n (at + 2) mode.mixed o) (h ∙ digit-letter y t) ∙ sym (rw (eq-eqb d act.separates q, t))
 
@@ -246,105 +249,86 @@ module _ (at o d x y z : ℕ) where
   pub no-separator : (d ≡ act.separates → ⊥) → Longer
   no-separator n = rw (ne-eqb d act.separates n)
 
-  module _ (l : Longer) where
-    pub is-percent : x ≡ dots 456 → y ≡ dots 356 → (s : Step) → s ≡ stepOf at o (percentBy z) → s ≡ stepOf at o (prefixBy d x y z)
+  -- by the sign of two cells that the look-up gives
+  module _ (l : Longer) (p : ℕ) (e : p ≡ twoOf w y) where
+    by-two : stepOf at o (choose (twoList z) p (one p 2 mode.free)) ≡ stepOf at o (prefixBy d w y z)
     unfolding prefixBy longerBy
-    is-percent a b s e = e ∙ sym (rw (l, eq-eqb x (dots 456) a, eq-eqb y (dots 356) b))
+    by-two = ap (λ (n : ℕ). stepOf at o (choose (twoList z) n (one n 2 mode.free))) e ∙ sym (rw l)
 
-    -- once it is no % either
-    abbrev pub NoPercent : Type 0
-    NoPercent = (eqb x (dots 456) && eqb y (dots 356)) ≡ false
+    pub two-none : p ≡ noPoint → variant.Nothing ≡ stepOf at o (prefixBy d w y z)
+    two-none q = sym (rw q) ∙ by-two
 
-    module _ (m : NoPercent) where
-      pub is-quote : x ≡ dots 6 → y ≡ dots 236 → (s : Step) → s ≡ markStep (at + 2) o innerQuotes → s ≡ stepOf at o (prefixBy d x y z)
-      unfolding prefixBy longerBy
-      is-quote a b s e = e ∙ sym (rw (l, m, eq-eqb x (dots 6) a, eq-eqb y (dots 236) b))
+    pub is-percent : p ≡ code "%" → (s : Step) → s ≡ stepOf at o (percentBy z) → s ≡ stepOf at o (prefixBy d w y z)
+    is-percent q s h = h ∙ sym (rw q) ∙ by-two
 
-      abbrev pub NoQuote : Type 0
-      NoQuote = (eqb x (dots 6) && eqb y (dots 236)) ≡ false
+    pub is-quote : p ≡ code "‘" → (s : Step) → s ≡ markStep (at + 2) o innerQuotes → s ≡ stepOf at o (prefixBy d w y z)
+    is-quote q s h = h ∙ sym (rw q) ∙ by-two
 
-      module _ (n : NoQuote) (p : ℕ) (e : p ≡ twoOf x y) where
-        pub two-none : p ≡ noPoint → variant.Nothing ≡ stepOf at o (prefixBy d x y z)
-        unfolding prefixBy longerBy
-        two-none q = rw (l, m, n, eq-eqb (twoOf x y) noPoint (sym e ∙ q))
-
-        pub two-sign : (p ≡ noPoint → ⊥) → variant.Sign noPoint p (at + 2) mode.free o ≡ stepOf at o (prefixBy d x y z)
-        unfolding prefixBy longerBy
-        two-sign q = rw (l, m, n, ne-eqb (twoOf x y) noPoint (λ h. q (e ∙ h)), e)
-
--- a test of two cells that fails
-pub second-differs : (x y a b : ℕ) → (y ≡ b → ⊥) → (eqb x a && eqb y b) ≡ false
-second-differs x y a b n = rw (ne-eqb y b n) (and-false (eqb x a))
-
-pub first-differs : (x y a b : ℕ) → (x ≡ a → ⊥) → (eqb x a && eqb y b) ≡ false
-first-differs x y a b n = rw (ne-eqb x a n)
+    pub two-sign : Rest Unit (keysOf (twoList z)) p → variant.Sign noPoint p (at + 2) mode.free o ≡ stepOf at o (prefixBy d w y z)
+    two-sign r = sym (ap (stepOf at o) (chosen-rest (twoList z) p (one p 2 mode.free) r)) ∙ by-two
 
 -- WHAT THE CELLS THAT FOLLOW DECIDE
-module _ (at o d w x y z : ℕ) where
-  pub point-inside : d ≡ act.point → digitCell y ≡ true → (p : ℕ) → p ≡ pointIn w → variant.Sign noPoint p (at + 1) mode.mid o ≡ stepOf at o (askedBy d w x y z)
+module _ (at o m d w y z : ℕ) where
+  pub point-inside : d ≡ act.point → digitCell y ≡ true → (p : ℕ) → p ≡ pointIn w → variant.Sign noPoint p (at + 1) mode.mid o ≡ stepOf at o (askedBy m d w y z)
   unfolding askedBy
   point-inside q e p h = rw (q, e, h)
 
-  pub point-ends : d ≡ act.point → digitCell y ≡ false → (p : ℕ) → p ≡ pointIn w → variant.Sign noPoint p (at + 1) mode.end o ≡ stepOf at o (askedBy d w x y z)
+  pub point-ends : d ≡ act.point → digitCell y ≡ false → (p : ℕ) → p ≡ pointIn w → variant.Sign noPoint p (at + 1) mode.end o ≡ stepOf at o (askedBy m d w y z)
   unfolding askedBy
   point-ends q e p h = rw (q, e, h)
 
-  pub one-under : d ≡ act.oneOrFeminine → digitCell y ≡ true → variant.Sign (code "⁄") (code "1") (at + 1) mode.under1 o ≡ stepOf at o (askedBy d w x y z)
+  pub one-under : d ≡ act.oneOrFeminine → digitCell y ≡ true → variant.Sign (code "⁄") (code "1") (at + 1) mode.under1 o ≡ stepOf at o (askedBy m d w y z)
   unfolding askedBy
   one-under q e = rw (q, e)
 
-  pub feminine-mark : d ≡ act.oneOrFeminine → digitCell y ≡ false → variant.Sign (code ".") (code "ª") (at + 1) mode.fem o ≡ stepOf at o (askedBy d w x y z)
+  pub feminine-mark : d ≡ act.oneOrFeminine → digitCell y ≡ false → variant.Sign (code ".") (code "ª") (at + 1) mode.fem o ≡ stepOf at o (askedBy m d w y z)
   unfolding askedBy
   feminine-mark q e = rw (q, e)
 
-  pub dash-here : d ≡ act.hyphenOrDash → y ≡ dots 36 → variant.Sign noPoint (code "—") (at + 2) mode.dash o ≡ stepOf at o (askedBy d w x y z)
+  pub dash-here : d ≡ act.hyphenOrDash → y ≡ dots 36 → variant.Sign noPoint (code "—") (at + 2) mode.dash o ≡ stepOf at o (askedBy m d w y z)
   unfolding askedBy
   dash-here q e = rw (q, eq-eqb y (dots 36) e)
 
-  pub hyphen-here : d ≡ act.hyphenOrDash → (y ≡ dots 36 → ⊥) → variant.Sign noPoint (code "-") (at + 1) mode.hyphen o ≡ stepOf at o (askedBy d w x y z)
+  pub hyphen-here : d ≡ act.hyphenOrDash → (y ≡ dots 36 → ⊥) → variant.Sign noPoint (code "-") (at + 1) mode.hyphen o ≡ stepOf at o (askedBy m d w y z)
   unfolding askedBy
   hyphen-here q e = rw (q, ne-eqb y (dots 36) e)
 
-  pub dash-again : d ≡ act.dashOnly → y ≡ dots 36 → variant.Sign noPoint (code "—") (at + 2) mode.dash o ≡ stepOf at o (askedBy d w x y z)
+  pub dash-again : d ≡ act.dashOnly → y ≡ dots 36 → variant.Sign noPoint (code "—") (at + 2) mode.dash o ≡ stepOf at o (askedBy m d w y z)
   unfolding askedBy
   dash-again q e = rw (q, eq-eqb y (dots 36) e)
 
-  pub half-dash : d ≡ act.dashOnly → (y ≡ dots 36 → ⊥) → variant.Nothing ≡ stepOf at o (askedBy d w x y z)
+  pub half-dash : d ≡ act.dashOnly → (y ≡ dots 36 → ⊥) → variant.Nothing ≡ stepOf at o (askedBy m d w y z)
   unfolding askedBy
   half-dash q e = rw (q, ne-eqb y (dots 36) e)
 
-  pub number-here : d ≡ act.numberSign → (s : Step) → s ≡ stepOf at o (numberBy (wordOf y)) → s ≡ stepOf at o (askedBy d w x y z)
+  pub number-here : d ≡ act.numberSign → (s : Step) → s ≡ stepOf at o (numberBy (wordOf y)) → s ≡ stepOf at o (askedBy m d w y z)
   unfolding askedBy
   number-here q s e = e ∙ sym (rw q)
 
-  pub longer-here : Rest Unit (keysOf (askList w y)) d → d < act.beginsRun → (s : Step) → s ≡ stepOf at o (prefixBy d x y z) → s ≡ stepOf at o (askedBy d w x y z)
+  pub capital-here : d ≡ act.capital → (s : Step) → s ≡ stepOf at o (capitalBy m y z) → s ≡ stepOf at o (askedBy m d w y z)
   unfolding askedBy
-  longer-here r l s e =
-      e ∙ sym (ap (stepOf at o) (chosen-rest (askList w y) d (cond (ltb d act.beginsRun) (prefixBy d x y z) (capitalBy d y z)) r)
-      ∙ ap (λ (b : Bool). stepOf at o (cond b (prefixBy d x y z) (capitalBy d y z))) (lt-ltb d act.beginsRun l))
+  capital-here q s e = e ∙ sym (rw q)
 
-  pub capital-here : Rest Unit (keysOf (askList w y)) d → act.beginsRun ≤ d → (s : Step) → s ≡ stepOf at o (capitalBy d y z) → s ≡ stepOf at o (askedBy d w x y z)
+  pub longer-here : Rest Unit (keysOf (askList m w y z)) d → (s : Step) → s ≡ stepOf at o (prefixBy d w y z) → s ≡ stepOf at o (askedBy m d w y z)
   unfolding askedBy
-  capital-here r l s e =
-      e ∙ sym (ap (stepOf at o) (chosen-rest (askList w y) d (cond (ltb d act.beginsRun) (prefixBy d x y z) (capitalBy d y z)) r)
-      ∙ ap (λ (b : Bool). stepOf at o (cond b (prefixBy d x y z) (capitalBy d y z))) (le-ltb d act.beginsRun l))
+  longer-here r s e = e ∙ sym (ap (stepOf at o) (chosen-rest (askList m w y z) d (prefixBy d w y z) r))
 
 -- THE STEP AT A PLACE, w being the word of the cell there
 module _ (row : Row) (at m o w : ℕ) (e : w ≡ wordOf (cellOf row at)) where
-  by-word : stepOf at o (byWord m w (cellOf row at) (cellOf row (at + 1)) (cellOf row (at + 2))) ≡ stepAt row at m o
+  by-word : stepOf at o (byWord m w (cellOf row (at + 1)) (cellOf row (at + 2))) ≡ stepAt row at m o
   unfolding stepAt readingOf
-  by-word = ap (λ (v : ℕ). stepOf at o (byWord m v (cellOf row at) (cellOf row (at + 1)) (cellOf row (at + 2)))) e
+  by-word = ap (λ (v : ℕ). stepOf at o (byWord m v (cellOf row (at + 1)) (cellOf row (at + 2)))) e
 
   pub as-usual : usualIn w m ≡ true → stepOf at o (usualBy w) ≡ stepAt row at m o
   unfolding byWord
   as-usual u = sym (rw u) ∙ by-word
 
   module _ (u : usualIn w m ≡ false) (d : ℕ) (told : d ≡ deedOf m (classIn w)) where
-    by-deed : (v : Reading) → choose (onceList w) d (askedBy d w (cellOf row at) (cellOf row (at + 1)) (cellOf row (at + 2))) ≡ v → stepOf at o v ≡ stepAt row at m o
+    by-deed : (v : Reading) → choose (onceList w) d (askedBy m d w (cellOf row (at + 1)) (cellOf row (at + 2))) ≡ v → stepOf at o v ≡ stepAt row at m o
     unfolding byWord
     by-deed v q =
         ap (stepOf at o) (sym q)
-        ∙ ap (λ (n : ℕ). stepOf at o (choose (onceList w) n (askedBy n w (cellOf row at) (cellOf row (at + 1)) (cellOf row (at + 2))))) told
+        ∙ ap (λ (n : ℕ). stepOf at o (choose (onceList w) n (askedBy m n w (cellOf row (at + 1)) (cellOf row (at + 2))))) told
         ∙ sym (rw u) ∙ by-word
 
     pub told-none : d ≡ act.noSign → variant.Nothing ≡ stepAt row at m o
@@ -369,10 +353,10 @@ module _ (row : Row) (at m o w : ℕ) (e : w ≡ wordOf (cellOf row at)) where
     told-masculine q = by-deed (reads (code ".") (code "º") 1 mode.free) (rw q)
 
     pub told-question : Rest Unit (keysOf (onceList w)) d → (s : Step)
-        → s ≡ stepOf at o (askedBy d w (cellOf row at) (cellOf row (at + 1)) (cellOf row (at + 2))) → s ≡ stepAt row at m o
+        → s ≡ stepOf at o (askedBy m d w (cellOf row (at + 1)) (cellOf row (at + 2))) → s ≡ stepAt row at m o
     told-question r s h =
-        h ∙ by-deed (askedBy d w (cellOf row at) (cellOf row (at + 1)) (cellOf row (at + 2)))
-        (chosen-rest (onceList w) d (askedBy d w (cellOf row at) (cellOf row (at + 1)) (cellOf row (at + 2))) r)
+        h ∙ by-deed (askedBy m d w (cellOf row (at + 1)) (cellOf row (at + 2)))
+        (chosen-rest (onceList w) d (askedBy m d w (cellOf row (at + 1)) (cellOf row (at + 2))) r)
 
 -- what `usual` returns
 module _ (w at o : ℕ) where
@@ -558,12 +542,26 @@ home-run m = go (eqb m mode.mid) refl
     go true e = sym (ap runOf (eqb→eq m mode.mid (subst T (sym e) tt)))
     go false e = refl
 
--- a cell that is a point or a comma inside a number, where a digit follows; the mode that it leaves is in the same run
-pub point-step : (row : Row) (at o x p : ℕ) → cellOf row at ≡ x → usualIn (wordOf x) mode.num ≡ false → act.point ≡ deedOf mode.num (classIn (wordOf x))
-    → p ≡ pointIn (wordOf x) → digitCell (cellOf row (at + 1)) ≡ true → variant.Sign noPoint p (at + 1) mode.mid o ≡ stepAt row at mode.num o
-point-step row at o x p e u told q f =
-    point-inside at o act.point (wordOf x) (cellOf row at) (cellOf row (at + 1)) (cellOf row (at + 2)) refl f p q
-    ∙ by-deed row at mode.num o (wordOf x) (ap wordOf (sym e)) u act.point told (askedBy act.point (wordOf x) (cellOf row at) (cellOf row (at + 1)) (cellOf row (at + 2))) refl
+-- a cell that is a point or a comma between two digits, where a digit follows; the mode that it leaves is in the same run
+abbrev between-test : ℕ → Bool
+between-test c =
+    not (usualIn (wordOf c) mode.num) && (eqb act.point (deedOf mode.num (classIn (wordOf c))) && eqb (runPoint (wordOf c) between) (pointIn (wordOf c)))
+
+between-told : (c : ℕ) → not (eqb (runPoint (wordOf c) between) noPoint) ≡ true → T (between-test c)
+unfolding words deeds
+between-told c n = has-field (λ w. runPoint w between) refl between-test tt c n
+
+pub point-step : (row : Row) (at o p : ℕ) → p ≡ runPoint (wordOf (cellOf row at)) between → (p ≡ noPoint → ⊥) → digitCell (cellOf row (at + 1)) ≡ true
+    → variant.Sign noPoint p (at + 1) mode.mid o ≡ stepAt row at mode.num o
+point-step row at o p e n f =
+    let x : ℕ = cellOf row at in
+    let w : ℕ = wordOf (cellOf row at) in
+    let t = both (not (usualIn (wordOf x) mode.num)) (eqb act.point (deedOf mode.num (classIn (wordOf x))) && eqb (runPoint (wordOf x) between) (pointIn (wordOf x)))
+    (between-told x (ap not (ne-eqb (runPoint (wordOf x) between) noPoint (λ q. n (e ∙ q))))) in
+    let u = both (eqb act.point (deedOf mode.num (classIn (wordOf x)))) (eqb (runPoint (wordOf x) between) (pointIn (wordOf x))) (t .1) in
+    point-inside at o mode.num act.point w (cellOf row (at + 1)) (cellOf row (at + 2)) refl f p (e ∙ eqb→eq (runPoint (wordOf x) between) (pointIn (wordOf x)) (u .1))
+    ∙ by-deed row at mode.num o w refl (not-true (usualIn w mode.num) (is-true (not (usualIn w mode.num)) (t .0))) act.point
+    (eqb→eq act.point (deedOf mode.num (classIn w)) (u .0)) (askedBy mode.num act.point w (cellOf row (at + 1)) (cellOf row (at + 2))) refl
 
 pub in-number : (row : Row) (at m o : ℕ) (s : Step) → m ≡ mode.num → Quick row at mode.num mode.mid o s → InRun row at m o s
 unfolding runOf
@@ -579,7 +577,7 @@ dash-step row at o e f =
 
 pub owed-step : (row : Row) (at o p : ℕ) → cellOf row at ≡ dots 46 → p ≡ capitalIn (wordOf (cellOf row (at + 1))) → (p ≡ noPoint → ⊥)
     → variant.Sign noPoint p (at + 2) mode.owing o ≡ stepAt row at mode.owing o
-unfolding stepAt readingOf byWord askedBy capitalBy words deeds dots
+unfolding stepAt readingOf byWord askedBy capitalBy afterCapital words deeds dots
 owed-step row at o p e f n =
     sym (ap (λ (x : ℕ). stepOf at o (readingOf mode.owing x (cellOf row (at + 1)) (cellOf row (at + 2)))) e
     ∙ rw (

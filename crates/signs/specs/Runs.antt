@@ -26,6 +26,10 @@ lowers = 32
 abbrev pub noRun : ℕ
 noRun = 64
 
+-- and that of the points and commas between two digits
+abbrev pub between : ℕ
+between = 48
+
 -- behind a point inside a number its digits go on
 abbrev pub runs : List (ℕ × ℕ)
 runs =

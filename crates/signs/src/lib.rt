@@ -2,7 +2,7 @@
 // as usual (`usual`), as their small letter, their sign or their pair mark; where the mode asks for another reading (`sign_at`), the table says which
 // (tools/readings.txt). Signs that follow one another alike have quick readings besides (`run_at`, `dash_at`, `owed_at`); of a cell that is its letter or its sign in
 // a word and where nothing is begun, a bit tells it (`is_alone`, `mode_behind`).
-use readings::BEGINS_RUN;
+use readings::CAPITAL;
 use readings::CAPITAL_OF_MANY;
 use readings::DASH;
 use readings::DASH_ONLY;
@@ -12,7 +12,6 @@ use readings::DIGIT_UNDER;
 use readings::END;
 use readings::FEM;
 use readings::FREE;
-use readings::GREATER_ONLY;
 use readings::HYPHEN;
 use readings::HYPHEN_OR_DASH;
 use readings::INNER_QUOTES;
@@ -22,17 +21,17 @@ use readings::LOWER_DIGIT;
 use readings::MASCULINE_MARK;
 use readings::MID;
 use readings::MIXED;
+use readings::MODE_PLACES;
 use readings::NO_POINT;
 use readings::NO_SIGN;
 use readings::NUM;
 use readings::NUMBER_SIGN;
 use readings::ONE_OR_FEMININE;
-use readings::OWED_CAPITAL;
 use readings::OWING;
 use readings::PERCENT;
 use readings::POINT;
+use readings::POINT_BITS;
 use readings::POINT_PLACES;
-use readings::RUN_GOES_ON;
 use readings::SEPARATES;
 use readings::Step;
 use readings::UNDER;
@@ -43,8 +42,6 @@ use readings::capital_in;
 use readings::cells;
 use readings::cells::D1;
 use readings::cells::D2;
-use readings::cells::D3;
-use readings::cells::D6;
 use readings::cells::D12;
 use readings::cells::D14;
 use readings::cells::D15;
@@ -63,7 +60,6 @@ use readings::cells::D236;
 use readings::cells::D245;
 use readings::cells::D256;
 use readings::cells::D356;
-use readings::cells::D456;
 use readings::cells::D1245;
 use readings::cells::D2356;
 use readings::cells::LETTERS_ALONE;
@@ -87,11 +83,11 @@ ghost use Rattle.rules.specs.Refusals.{longestRow};
 ghost use Rattle.rules.proofs.Machine.{at-rest};
 ghost use Rattle.pairs.specs.Opened.{openStates};
 ghost use Rattle.readings.specs.Modes.{modeOf, modeCount, owing, num, mid, dash};
-ghost use Rattle.readings.specs.Fields.{pointIn, kindIn, thenIn, usualIn, runPoint, noCell, cellOf};
+ghost use Rattle.readings.specs.Fields.{pointIn, kindIn, thenIn, usualIn, fieldIn, runPoint, noCell, cellOf};
 ghost use Rattle.readings.specs.Words.{wordOf};
-ghost use Rattle.readings.specs.Readings.{noPoint, usualBy, markStep, digitCell, stepOf, capitalBy, numberBy, percentBy, prefixBy, askedBy, stepAt};
+ghost use Rattle.readings.specs.Readings.{noPoint, usualBy, markStep, digitCell, stepOf, afterCapital, capitalBy, numberBy, percentBy, prefixBy, askedBy, stepAt};
 ghost use Rattle.signs.specs.Among.{cellAmong, lowerCell, aloneCell};
-ghost use Rattle.signs.specs.Runs.{noRun, runOf, homeOf, Quick, InRun};
+ghost use Rattle.signs.specs.Runs.{between, noRun, runOf, homeOf, Quick, InRun};
 
 // How many bits a cell's word has.
 const WORD_BITS: usize = 64;
@@ -104,6 +100,9 @@ const CAPITALS: usize = 16;
 const LOWERS: usize = 32;
 
 pub const NO_RUN: usize = 64;
+
+// And where that of the points and commas between two digits stands.
+const BETWEEN: usize = 48;
 
 // The cells of the digits 1 to 9 and 0, and those of the lower digits: a bit for each.
 const DIGIT_CELLS: u64 = (1 << D1)
@@ -128,6 +127,22 @@ const LOWER_CELLS: u64 = (1 << D2)
     + (1 << D35)
     + (1 << D356);
 
+// The mode after a capital that has a 46 of its own, for each mode before it, four bits for each: LONE where a run begins, and none (FREE) where no such capital
+// stands. (As one number, since of a `match` the compiler would make jumps, which the processor cannot foresee.)
+const AFTER_CAPITAL: u64 = ((LONE as u64) << (FREE * MODE_BITS))
+    + ((OWING as u64) << (LONE * MODE_BITS))
+    + ((MIXED as u64) << (MIXED * MODE_BITS))
+    + ((LONE as u64) << (END * MODE_BITS))
+    + ((LONE as u64) << (HYPHEN * MODE_BITS))
+    + ((LONE as u64) << (FEM * MODE_BITS))
+    + ((LONE as u64) << (PERCENT * MODE_BITS))
+    + ((OWING as u64) << (OWING * MODE_BITS))
+    + ((LONE as u64) << (DASH * MODE_BITS))
+    + ((LONE as u64) << (NUM * MODE_BITS))
+    + ((LONE as u64) << (UNDER * MODE_BITS));
+
+const MODE_BITS: usize = 4;
+
 // A lower digit is its digit with every dot a row lower, which counts twice as much: 14 counts 9, and 25 counts 18.
 const LOWERED: u8 = 2;
 
@@ -139,8 +154,6 @@ pub const LAST_CELL: u8 = 63;
 
 // The code points that a deed or a quick reading gives by itself.
 const FULL_STOP: u32 = 0x2e; // .
-
-const THE_COMMA: u32 = 0x2c; // ,
 
 const THE_ONE: u32 = 0x31; // 1
 
@@ -157,6 +170,8 @@ const MASCULINE: u32 = 0xba; // º
 const GREATER: u32 = 0x3e; // >
 
 const THE_PERCENT: u32 = 0x25; // %
+
+const OPENING_QUOTE: u32 = 0x2018; // ‘
 
 const PER_MILLE: u32 = 0x2030; // ‰
 
@@ -258,36 +273,42 @@ pub fn mode_behind(cell: u8) -> usize
     FREE
 }
 
-// After 46: a letter is a capital, and the deed says the mode after it; 46 again and a letter begin a run of capitals; 2 makes >. (The capital is looked up in
-// one place, so that the compiler draws the look-up in.)
-fn capital(row: &[u8], at: usize, deed: usize, opened: usize) -> Step
+// The mode after a capital that has a 46 of its own.
+fn after_capital(mode: usize) -> usize
+    ensures { λ r. ⌜ r ≡ afterCapital mode ⌝ }
+{
+    (AFTER_CAPITAL >> (mode % MODE_PLACES * MODE_BITS)) as usize % MODE_PLACES
+}
+
+// After 46: a letter is a capital, and the mode before says the mode after it; where a run begins, 46 again and a letter begin one of capitals only; 2 makes >, where no small
+// letter is owed. (The capital is looked up in one place, so that the compiler draws the look-up in.)
+fn capital(row: &[u8], at: usize, mode: usize, opened: usize) -> Step
     requires { ⌜ (length (now row) ≤ longestRow) × (at < length (now row)) ⌝ }
-    ensures { λ r. ⌜ r ≡ stepOf at opened (capitalBy deed (cellOf (now (row .entry)) (at + 1)) (cellOf (now (row .entry)) (at + 2))) ⌝ }
+    ensures { λ r. ⌜ r ≡ stepOf at opened (capitalBy mode (cellOf (now (row .entry)) (at + 1)) (cellOf (now (row .entry)) (at + 2))) ⌝ }
 {
     let second = cell_at(row, at + 1);
     if second == D2 {
-        if deed == OWED_CAPITAL {
+        if mode == OWING {
             return Step::Nothing;
         }
         return sign(GREATER, at + 2, FREE, opened);
     }
+    let after = after_capital(mode);
     let letter_at = if second == D46 { at + 2 } else { at + 1 };
     let letter = cells::capital_of(cell_at(row, letter_at));
     if letter == NO_POINT {
         return Step::Nothing;
     }
     if second == D46 {
-        if deed == BEGINS_RUN {
+        if after == LONE {
             return sign(letter, at + 3, WHOLE1, opened);
         }
         return Step::Nothing;
     }
-    match deed {
-        BEGINS_RUN => sign(letter, at + 2, LONE, opened),
-        RUN_GOES_ON => sign(letter, at + 2, MIXED, opened),
-        GREATER_ONLY => Step::Nothing,
-        _ => sign(letter, at + 2, OWING, opened),
+    if after == FREE {
+        return Step::Nothing;
     }
+    sign(letter, at + 2, after, opened)
 }
 
 // After 3456: a digit begins a number, a lower digit an ordinal or a fraction. (Both are looked up in one table, so that there is no jump for the
@@ -317,39 +338,37 @@ fn percent(row: &[u8], at: usize, opened: usize) -> Step
     sign(THE_PERCENT, at + 2, PERCENT, opened)
 }
 
-// A sign that begins with a cell that is none by itself. "A lower-case a to j directly after a number's last digit has cell 5 before it."
-fn prefixed(row: &[u8], at: usize, deed: usize, opened: usize) -> Step
-    requires { ⌜ (length (now row) ≤ longestRow) × (at < length (now row)) × (opened < openStates) ⌝ }
-    ensures { λ r. ⌜ r ≡ stepOf at opened (prefixBy deed (cellOf (now (row .entry)) at) (cellOf (now (row .entry)) (at + 1)) (cellOf (now (row .entry)) (at + 2))) ⌝ }
+// A field of 16 bits of a word: a code point, or NO_POINT. (A place is below 64, so that the remainder is the place.)
+fn field_in(word: u64, at: usize) -> u32
+    ensures { λ r. ⌜ r ≡ fieldIn word at ⌝ }
 {
-    let first = cell_at(row, at);
+    ((word >> (at % WORD_BITS)) % POINT_PLACES) as u32
+}
+
+// A sign that begins with a cell that is none by itself and whose word is at hand. "A lower-case a to j directly after a number's last digit has cell 5 before it."
+fn prefixed(row: &[u8], at: usize, word: u64, deed: usize, opened: usize) -> Step
+    requires { ⌜ (length (now row) ≤ longestRow) × (at < length (now row)) × (opened < openStates) ⌝ }
+    ensures { λ r. ⌜ r ≡ stepOf at opened (prefixBy deed word (cellOf (now (row .entry)) (at + 1)) (cellOf (now (row .entry)) (at + 2))) ⌝ }
+{
     let second = cell_at(row, at + 1);
     if deed == SEPARATES {
         if is_digit(second) {
             return sign(cells::letter_of(second), at + 2, MIXED, opened);
         }
     }
-    if first == D456 {
-        if second == D356 {
-            return percent(row, at, opened);
-        }
+    let point = field_in(cells::second_word(second), kind_in(word) * POINT_BITS);
+    match point {
+        NO_POINT => Step::Nothing,
+        THE_PERCENT => percent(row, at, opened),
+        OPENING_QUOTE => mark(INNER_QUOTES, at + 2, opened),
+        _ => sign(point, at + 2, FREE, opened),
     }
-    if first == D6 {
-        if second == D236 {
-            return mark(INNER_QUOTES, at + 2, opened);
-        }
-    }
-    let point = cells::two_cells(first, second);
-    if point == NO_POINT {
-        return Step::Nothing;
-    }
-    sign(point, at + 2, FREE, opened)
 }
 
 // What the cells that follow decide; `word` is that of the cell at the place.
-fn asked(row: &[u8], at: usize, word: u64, deed: usize, opened: usize) -> Step
+fn asked(row: &[u8], at: usize, word: u64, mode: usize, deed: usize, opened: usize) -> Step
     requires { ⌜ (length (now row) ≤ longestRow) × (at < length (now row)) × (opened < openStates) ⌝ }
-    ensures { λ r. ⌜ r ≡ stepOf at opened (askedBy deed word (cellOf (now (row .entry)) at) (cellOf (now (row .entry)) (at + 1)) (cellOf (now (row .entry)) (at + 2))) ⌝ }
+    ensures { λ r. ⌜ r ≡ stepOf at opened (askedBy mode deed word (cellOf (now (row .entry)) (at + 1)) (cellOf (now (row .entry)) (at + 2))) ⌝ }
 {
     match deed {
         POINT => {
@@ -393,13 +412,8 @@ fn asked(row: &[u8], at: usize, word: u64, deed: usize, opened: usize) -> Step
             }
         }
         NUMBER_SIGN => number(row, at, opened),
-        _ => {
-            if deed < BEGINS_RUN {
-                prefixed(row, at, deed, opened)
-            } else {
-                capital(row, at, deed, opened)
-            }
-        }
+        CAPITAL => capital(row, at, mode, opened),
+        _ => prefixed(row, at, word, deed, opened),
     }
 }
 
@@ -448,7 +462,7 @@ pub fn sign_at(row: &[u8], at: usize, word: u64, mode: usize, opened: usize) -> 
             mode: FREE,
             opened,
         },
-        _ => asked(row, at, word, deed, opened),
+        _ => asked(row, at, word, mode, deed, opened),
     }
 }
 
@@ -476,27 +490,17 @@ fn home_of(mode: usize) -> usize
     mode
 }
 
-// What a cell is in a run, or NO_POINT. (A run is below 64, so that the remainder is the run.)
-fn run_point(cell: u8, run: usize) -> u32
-    ensures { λ r. ⌜ r ≡ runPoint (wordOf cell) run ⌝ }
-{
-    ((cells::run_word(cell) >> (run % WORD_BITS)) % POINT_PLACES) as u32
-}
-
 // A quick reading of a point or a comma behind a digit of a number: "any single full stop or comma that stands directly between two digits", so a digit has to
-// follow. Where none does, it says nothing.
-fn point_inside(row: &[u8], at: usize, cell: u8, opened: usize) -> Step
-    requires { ⌜ (length (now row) ≤ longestRow) × (at < length (now row)) × (cell ≡ cellOf (now row) at) ⌝ }
+// follow. Where none does, or where the cell is no such point, it says nothing.
+fn point_inside(row: &[u8], at: usize, point: u32, opened: usize) -> Step
+    requires { ⌜ (length (now row) ≤ longestRow) × (at < length (now row)) × (point ≡ runPoint (wordOf (cellOf (now row) at)) between) ⌝ }
     ensures { λ r. ⌜ Quick (now (row .entry)) at num mid opened r ⌝ }
 {
-    let follows = cell_at(row, at + 1);
-    if is_digit(follows) {
-        if cell == D3 {
-            return sign(FULL_STOP, at + 1, MID, opened);
-        }
-        if cell == D2 {
-            return sign(THE_COMMA, at + 1, MID, opened);
-        }
+    if point == NO_POINT {
+        return Step::Nothing;
+    }
+    if is_digit(cell_at(row, at + 1)) {
+        return sign(point, at + 1, MID, opened);
     }
     Step::Nothing
 }
@@ -510,12 +514,13 @@ pub fn run_at(row: &[u8], at: usize, run: usize, mode: usize, opened: usize) -> 
     if LAST_CELL < cell {
         return Step::Nothing;
     }
-    let point = run_point(cell, run);
+    let word = cells::run_word(cell);
+    let point = field_in(word, run);
     if point != NO_POINT {
         return sign(point, at + 1, home_of(mode), opened);
     }
     if mode == NUM {
-        return point_inside(row, at, cell, opened);
+        return point_inside(row, at, field_in(word, BETWEEN), opened);
     }
     Step::Nothing
 }

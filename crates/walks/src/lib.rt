@@ -3,10 +3,8 @@
 use readings::ALIKE;
 use readings::DASH;
 use readings::FREE;
-use readings::MID;
 use readings::MIXED;
 use readings::NO_POINT;
-use readings::NUM;
 use readings::OWING;
 use readings::Step;
 use signs::NO_RUN;
@@ -212,8 +210,7 @@ fn alike(
 
 // "each step gives the print of the next sign and the place after it." From a place, where a sign starts, with what the signs before it leave (`begun` is the
 // mode, `unclosed` are the open pairs), as long as the next sign starts before the place `stop`. Their print is written behind the code points that are counted,
-// if there is room. A sign that leaves the mode as it found it may be one of many, most numbers have more digits than one, and behind a point inside a number stands a digit:
-// those that follow alike are read at once. (Behind most signs nothing may follow alike, so that is asked first: their modes are the lowest.)
+// if there is room. Behind some signs more may follow alike, and those are read at once. (Behind most signs none may: their modes are the lowest.)
 pub fn walk(
     row: &[u8],
     from: usize,
@@ -259,9 +256,7 @@ pub fn walk(
                 return Walked::Nowhere(at);
             };
             count = put(text, count, lead, point);
-            if ALIKE <= mode_after
-                && (mode_after == mode || mode_after == MID || mode_after == NUM)
-            {
+            if ALIKE <= mode_after {
                 let Walked::On {
                     at: at_last,
                     mode: mode_last,

@@ -4,7 +4,7 @@ use Prim.Native.Nat.{ℕ, _+_}
 use Rattle.rules.specs.Cells.{dots}
 use Rattle.readings.specs.Fields.{cellOf}
 use Rattle.readings.specs.Readings.{digitCell}
-use Rattle.signs.proofs.Cases.{point-inside, point-ends, one-under, feminine-mark, dash-here, hyphen-here, dash-again, half-dash, number-here, longer-here, capital-here}
+use Rattle.signs.proofs.Cases.{point-inside, point-ends, one-under, feminine-mark, dash-here, hyphen-here, dash-again, half-dash, number-here, capital-here, longer-here}
 use borrow.Author.Needs.{needs}
 use Rattle.signs.proofs.asked.Statement.{statement}
 use Rattle.signs.proofs.asked.Tie as tie
@@ -18,10 +18,7 @@ use Rattle.readings.proofs.point_in.Reads as point-in-reads
 use Rattle.signs.proofs.prefixed.Reads as prefixed-reads
 use Rattle.signs.proofs.sign.Reads as sign-reads
 
--- the cells in view
-abbrev X : tie.Start → ℕ
-X s = cellOf (s .args .row .now) (s .args .at)
-
+-- the second cell and the third
 abbrev Y : tie.Start → ℕ
 Y s = cellOf (s .args .row .now) (s .args .at + 1)
 
@@ -64,11 +61,11 @@ cell-at-requires-2 c κs = search needs
 is-digit-requires-2 : tie.Need-is-digit-requires-2
 is-digit-requires-2 c κs = search needs
 
-add-t19 : tie.Need-add-t19
-add-t19 c = search needs
-
 add-t20 : tie.Need-add-t20
 add-t20 c = search needs
+
+add-t21 : tie.Need-add-t21
+add-t21 c = search needs
 
 add-cell-at-3 : tie.Need-add-cell-at-3
 add-cell-at-3 c = search needs
@@ -103,58 +100,58 @@ sign-requires-5 c κs = search needs
 number-requires : tie.Need-number-requires
 number-requires c κs = search needs
 
-prefixed-requires : tie.Need-prefixed-requires
-prefixed-requires c κs = search needs
-
 capital-requires : tie.Need-capital-requires
 capital-requires c κs = search needs
+
+prefixed-requires : tie.Need-prefixed-requires
+prefixed-requires c κs = search needs
 
 returns : tie.Need-returns
 returns c =
     let p = c .before in
     let k = p .before .before in
     let s = k .before .before .before .before in
-    c .sign .ensures ∙ point-inside (s .args .at) (s .args .opened) (s .args .deed) (s .args .word) (X s) (Y s) (Z s) (k .before .before .match .keys1) (sym (k .is-digit .ensures ∙ ap digitCell (k .before .cell-at .ensures)) ∙ p .before .if1 .taken) (p .point-in .result) (p .point-in .ensures)
+    c .sign .ensures ∙ point-inside (s .args .at) (s .args .opened) (s .args .mode) (s .args .deed) (s .args .word) (Y s) (Z s) (k .before .before .match .keys1) (sym (k .is-digit .ensures ∙ ap digitCell (k .before .cell-at .ensures)) ∙ p .before .if1 .taken) (p .point-in .result) (p .point-in .ensures)
 
 returns-2 : tie.Need-returns-2
 returns-2 c =
     let p = c .before in
     let k = p .before .before in
     let s = k .before .before .before .before in
-    c .sign2 .ensures ∙ point-ends (s .args .at) (s .args .opened) (s .args .deed) (s .args .word) (X s) (Y s) (Z s) (k .before .before .match .keys1) (sym (k .is-digit .ensures ∙ ap digitCell (k .before .cell-at .ensures)) ∙ p .before .if1 .left) (p .point-in2 .result) (p .point-in2 .ensures)
+    c .sign2 .ensures ∙ point-ends (s .args .at) (s .args .opened) (s .args .mode) (s .args .deed) (s .args .word) (Y s) (Z s) (k .before .before .match .keys1) (sym (k .is-digit .ensures ∙ ap digitCell (k .before .cell-at .ensures)) ∙ p .before .if1 .left) (p .point-in2 .result) (p .point-in2 .ensures)
 
 returns-3 : tie.Need-returns-3
 returns-3 c =
     let k = c .before in
     let s = k .before .before .before .before in
-    one-under (s .args .at) (s .args .opened) (s .args .deed) (s .args .word) (X s) (Y s) (Z s) (k .before .before .match .keys2) (sym (k .is-digit2 .ensures ∙ ap digitCell (k .before .cell-at2 .ensures)) ∙ c .if2 .taken)
+    one-under (s .args .at) (s .args .opened) (s .args .mode) (s .args .deed) (s .args .word) (Y s) (Z s) (k .before .before .match .keys2) (sym (k .is-digit2 .ensures ∙ ap digitCell (k .before .cell-at2 .ensures)) ∙ c .if2 .taken)
 
 returns-4 : tie.Need-returns-4
 returns-4 c =
     let k = c .before in
     let s = k .before .before .before .before in
-    feminine-mark (s .args .at) (s .args .opened) (s .args .deed) (s .args .word) (X s) (Y s) (Z s) (k .before .before .match .keys2) (sym (k .is-digit2 .ensures ∙ ap digitCell (k .before .cell-at2 .ensures)) ∙ c .if2 .left)
+    feminine-mark (s .args .at) (s .args .opened) (s .args .mode) (s .args .deed) (s .args .word) (Y s) (Z s) (k .before .before .match .keys2) (sym (k .is-digit2 .ensures ∙ ap digitCell (k .before .cell-at2 .ensures)) ∙ c .if2 .left)
 
 returns-5 : tie.Need-returns-5
 unfolding dots
 returns-5 c =
     let k = c .before .before in
     let s = k .before .before .before in
-    c .sign3 .ensures ∙ dash-here (s .args .at) (s .args .opened) (s .args .deed) (s .args .word) (X s) (Y s) (Z s) (k .before .match .keys3) (sym (k .cell-at3 .ensures) ∙ c .before .if3 .taken)
+    c .sign3 .ensures ∙ dash-here (s .args .at) (s .args .opened) (s .args .mode) (s .args .deed) (s .args .word) (Y s) (Z s) (k .before .match .keys3) (sym (k .cell-at3 .ensures) ∙ c .before .if3 .taken)
 
 returns-6 : tie.Need-returns-6
 unfolding dots
 returns-6 c =
     let k = c .before .before in
     let s = k .before .before .before in
-    c .sign4 .ensures ∙ hyphen-here (s .args .at) (s .args .opened) (s .args .deed) (s .args .word) (X s) (Y s) (Z s) (k .before .match .keys3) (λ e. c .before .if3 .left (k .cell-at3 .ensures ∙ e))
+    c .sign4 .ensures ∙ hyphen-here (s .args .at) (s .args .opened) (s .args .mode) (s .args .deed) (s .args .word) (Y s) (Z s) (k .before .match .keys3) (λ e. c .before .if3 .left (k .cell-at3 .ensures ∙ e))
 
 returns-7 : tie.Need-returns-7
 unfolding dots
 returns-7 c =
     let k = c .before in
     let s = k .before .before .before in
-    half-dash (s .args .at) (s .args .opened) (s .args .deed) (s .args .word) (X s) (Y s) (Z s) (k .before .match .keys4)
+    half-dash (s .args .at) (s .args .opened) (s .args .mode) (s .args .deed) (s .args .word) (Y s) (Z s) (k .before .match .keys4)
     (λ e. c .if4 .taken (k .cell-at4 .ensures ∙ e))
 
 returns-8 : tie.Need-returns-8
@@ -163,25 +160,23 @@ returns-8 c =
     let k = c .before .before in
     let s = k .before .before .before in
     c .sign5 .ensures
-    ∙ dash-again (s .args .at) (s .args .opened) (s .args .deed) (s .args .word) (X s) (Y s) (Z s) (k .before .match .keys4)
+    ∙ dash-again (s .args .at) (s .args .opened) (s .args .mode) (s .args .deed) (s .args .word) (Y s) (Z s) (k .before .match .keys4)
     (sym (k .cell-at4 .ensures) ∙ c .before .if4 .left)
 
 returns-9 : tie.Need-returns-9
 returns-9 c =
     let s = c .before .before .before in
-    number-here (s .args .at) (s .args .opened) (s .args .deed) (s .args .word) (X s) (Y s) (Z s) (c .before .match .keys5) (c .number .result) (c .number .ensures)
+    number-here (s .args .at) (s .args .opened) (s .args .mode) (s .args .deed) (s .args .word) (Y s) (Z s) (c .before .match .keys5) (c .number .result) (c .number .ensures)
 
 returns-10 : tie.Need-returns-10
 returns-10 c =
-    let k = c .before .before in
-    let s = k .before .before in
-    longer-here (s .args .at) (s .args .opened) (s .args .deed) (s .args .word) (X s) (Y s) (Z s) (k .match .rest) (c .before .if5 .taken) (c .prefixed .result) (c .prefixed .ensures)
+    let s = c .before .before .before in
+    capital-here (s .args .at) (s .args .opened) (s .args .mode) (s .args .deed) (s .args .word) (Y s) (Z s) (c .before .match .keys6) (c .capital .result) (c .capital .ensures)
 
 returns-11 : tie.Need-returns-11
 returns-11 c =
-    let k = c .before .before in
-    let s = k .before .before in
-    capital-here (s .args .at) (s .args .opened) (s .args .deed) (s .args .word) (X s) (Y s) (Z s) (k .match .rest) (c .before .if5 .left) (c .capital .result) (c .capital .ensures)
+    let s = c .before .before .before in
+    longer-here (s .args .at) (s .args .opened) (s .args .mode) (s .args .deed) (s .args .word) (Y s) (Z s) (c .before .match .rest) (c .prefixed .result) (c .prefixed .ensures)
 
 pub asked-spec : {M : Type 1} → statement M
 asked-spec =
@@ -199,8 +194,8 @@ asked-spec =
     add-cell-at-2
     cell-at-requires-2
     is-digit-requires-2
-    add-t19
     add-t20
+    add-t21
     add-cell-at-3
     cell-at-requires-3
     add-sign-3
@@ -212,8 +207,8 @@ asked-spec =
     add-sign-5
     sign-requires-5
     number-requires
-    prefixed-requires
     capital-requires
+    prefixed-requires
     returns
     returns-2
     returns-3

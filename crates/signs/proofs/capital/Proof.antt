@@ -7,12 +7,15 @@ use native.Mathlib.Omega.{arith}
 use Rattle.rules.specs.Cells.{dots}
 use Rattle.readings.specs.Fields.{capitalIn, cellOf}
 use Rattle.readings.specs.Words.{wordOf}
-use Rattle.signs.proofs.Cases.{run-none, run-first, run-barred, greater-owed, greater, letter-none, letter-begins, letter-mixed, letter-barred, letter-owes}
+use Rattle.readings.specs.Readings.{noPoint, afterCapital}
+use Rattle.readings.specs.declared.Step.the-variants.{Sign}
+use Rattle.signs.proofs.Cases.{run-none, run-first, run-barred, greater-owed, greater, letter-none, letter-barred, letter-stands}
 use borrow.Author.Needs.{needs}
 use Rattle.signs.proofs.capital.Statement.{statement}
 use Rattle.signs.proofs.capital.Tie as tie
 use Rattle.signs.proofs.capital.Reads as reads
 use Rattle.signs.proofs.capital.Lts as lts
+use Rattle.signs.proofs.after_capital.Reads as after-capital-reads
 use Rattle.signs.proofs.cell_at.Reads as cell-at-reads
 use Rattle.readings.proofs.cells.capital_of.Reads as capital-of-reads
 use Rattle.signs.proofs.sign.Reads as sign-reads
@@ -44,15 +47,28 @@ not-both y a b = omega (arith, a, b)
 abbrev L : Type 0
 L = tie.After-capital-of
 
+-- the mode after it
+abbrev A : Type 0
+A = tie.After-after-capital
+
+abbrev of-after : L → A
+of-after k = k .before .before .before
+
 abbrev second : L → S
-second k = k .before .before .before .before
+second k = of-after k .before .before
 
 abbrev of-letter : L → tie.Start
 of-letter k = of-second (second k)
 
 no-greater : (k : L) → Y (of-letter k) ≡ dots 2 → ⊥
 unfolding dots
-no-greater k q = k .before .before .before .if1 .left (second k .cell-at .ensures ∙ q)
+no-greater k q = of-after k .before .if1 .left (second k .cell-at .ensures ∙ q)
+
+abbrev after : L → ℕ
+after k = of-after k .after-capital .result
+
+after-is : (k : L) → after k ≡ afterCapital (of-letter k .args .mode)
+after-is k = of-after k .after-capital .ensures
 
 abbrev Again : L → Type 0
 Again k = Y (of-letter k) ≡ dots 46
@@ -94,7 +110,7 @@ returns : tie.Need-returns
 returns c =
     let s = of-second (c .before .before) in
     let e = greater-is (c .before) in
-    greater-owed (s .args .at) (s .args .opened) (s .args .deed) (Y s) (Z s) (not-both (Y s) e) e (c .if2 .taken)
+    greater-owed (s .args .at) (s .args .opened) (s .args .mode) (Y s) (Z s) (not-both (Y s) e) e (c .if2 .taken)
 
 add-sign : tie.Need-add-sign
 add-sign c = search needs
@@ -107,7 +123,10 @@ returns-2 c =
     let s = of-second (c .before .before .before) in
     let e = greater-is (c .before .before) in
     c .sign .ensures
-    ∙ greater (s .args .at) (s .args .opened) (s .args .deed) (Y s) (Z s) (not-both (Y s) e) e (c .before .if2 .left)
+    ∙ greater (s .args .at) (s .args .opened) (s .args .mode) (Y s) (Z s) (not-both (Y s) e) e (c .before .if2 .left)
+
+after-capital-requires : tie.Need-after-capital-requires
+after-capital-requires c κs = search needs
 
 add-letter-at : tie.Need-add-letter-at
 add-letter-at c = search needs
@@ -125,8 +144,8 @@ returns-3 : tie.Need-returns-3
 returns-3 c =
     let k = c .before in
     let s = of-letter k in
-    meets k _ (λ a e. run-none (s .args .at) (s .args .opened) (s .args .deed) (Y s) (Z s) a (k .capital-of .result) e (c .if4 .taken))
-    (λ n e. letter-none (s .args .at) (s .args .opened) (s .args .deed) (Y s) (Z s) n (no-greater k) (k .capital-of .result) e (c .if4 .taken))
+    meets k _ (λ a e. run-none (s .args .at) (s .args .opened) (s .args .mode) (Y s) (Z s) a (k .capital-of .result) e (c .if4 .taken))
+    (λ n e. letter-none (s .args .at) (s .args .opened) (s .args .mode) (Y s) (Z s) n (no-greater k) (k .capital-of .result) e (c .if4 .taken))
 
 add-sign-2 : tie.Need-add-sign-2
 add-sign-2 c = search needs
@@ -140,14 +159,21 @@ returns-4 c =
     let k = a .before .before in
     let s = of-letter k in
     c .sign2 .ensures
-    ∙ run-first (s .args .at) (s .args .opened) (s .args .deed) (Y s) (Z s) (again a) (k .capital-of .result) (first-is k (again a)) (a .before .if4 .left) (c .before .if6 .taken)
+    ∙ run-first (s .args .at) (s .args .opened) (s .args .mode) (Y s) (Z s) (again a) (k .capital-of .result) (first-is k (again a)) (a .before .if4 .left) (sym (after-is k) ∙ c .before .if6 .taken)
 
 returns-5 : tie.Need-returns-5
 returns-5 c =
     let a = c .before in
     let k = a .before .before in
     let s = of-letter k in
-    run-barred (s .args .at) (s .args .opened) (s .args .deed) (Y s) (Z s) (again a) (k .capital-of .result) (first-is k (again a)) (a .before .if4 .left) (c .if6 .left)
+    run-barred (s .args .at) (s .args .opened) (s .args .mode) (Y s) (Z s) (again a) (k .capital-of .result) (first-is k (again a)) (a .before .if4 .left) (λ q. c .if6 .left (after-is k ∙ q))
+
+returns-6 : tie.Need-returns-6
+returns-6 c =
+    let a = c .before in
+    let k = a .before .before in
+    let s = of-letter k in
+    letter-barred (s .args .at) (s .args .opened) (s .args .mode) (Y s) (Z s) (not-again a) (no-greater k) (k .capital-of .result) (letter-is k (not-again a)) (a .before .if4 .left) (sym (after-is k) ∙ c .if7 .taken)
 
 add-sign-3 : tie.Need-add-sign-3
 add-sign-3 c = search needs
@@ -155,48 +181,14 @@ add-sign-3 c = search needs
 sign-requires-3 : tie.Need-sign-requires-3
 sign-requires-3 c κs = search needs
 
-add-sign-4 : tie.Need-add-sign-4
-add-sign-4 c = search needs
-
-sign-requires-4 : tie.Need-sign-requires-4
-sign-requires-4 c κs = search needs
-
-add-sign-5 : tie.Need-add-sign-5
-add-sign-5 c = search needs
-
-sign-requires-5 : tie.Need-sign-requires-5
-sign-requires-5 c κs = search needs
-
-returns-6 : tie.Need-returns-6
-returns-6 c =
-    let a = c .before .before in
-    let k = a .before .before in
-    let s = of-letter k in
-    c .sign3 .ensures
-    ∙ letter-begins (s .args .at) (s .args .opened) (s .args .deed) (Y s) (Z s) (not-again a) (no-greater k) (k .capital-of .result) (letter-is k (not-again a)) (a .before .if4 .left) (c .before .match .keys1)
-
 returns-7 : tie.Need-returns-7
 returns-7 c =
     let a = c .before .before in
     let k = a .before .before in
     let s = of-letter k in
-    c .sign4 .ensures
-    ∙ letter-mixed (s .args .at) (s .args .opened) (s .args .deed) (Y s) (Z s) (not-again a) (no-greater k) (k .capital-of .result) (letter-is k (not-again a)) (a .before .if4 .left) (c .before .match .keys2)
-
-returns-8 : tie.Need-returns-8
-returns-8 c =
-    let a = c .before in
-    let k = a .before .before in
-    let s = of-letter k in
-    letter-barred (s .args .at) (s .args .opened) (s .args .deed) (Y s) (Z s) (not-again a) (no-greater k) (k .capital-of .result) (letter-is k (not-again a)) (a .before .if4 .left) (c .match .keys3)
-
-returns-9 : tie.Need-returns-9
-returns-9 c =
-    let a = c .before .before in
-    let k = a .before .before in
-    let s = of-letter k in
-    c .sign5 .ensures
-    ∙ letter-owes (s .args .at) (s .args .opened) (s .args .deed) (Y s) (Z s) (not-again a) (no-greater k) (k .capital-of .result) (letter-is k (not-again a)) (a .before .if4 .left) (c .before .match .rest)
+    c .sign3 .ensures
+    ∙ ap (λ (n : ℕ). Sign noPoint (k .capital-of .result) (s .args .at + 2) n (s .args .opened)) (after-is k)
+    ∙ letter-stands (s .args .at) (s .args .opened) (s .args .mode) (Y s) (Z s) (not-again a) (no-greater k) (k .capital-of .result) (letter-is k (not-again a)) (a .before .if4 .left) (λ q. c .before .if7 .left (after-is k ∙ q))
 
 pub capital-spec : {M : Type 1} → statement M
 capital-spec =
@@ -208,6 +200,7 @@ capital-spec =
     add-sign
     sign-requires
     returns-2
+    after-capital-requires
     add-letter-at
     add-letter-at-2
     cell-at-requires-2
@@ -217,13 +210,7 @@ capital-spec =
     sign-requires-2
     returns-4
     returns-5
+    returns-6
     add-sign-3
     sign-requires-3
-    add-sign-4
-    sign-requires-4
-    add-sign-5
-    sign-requires-5
-    returns-6
-    returns-7
-    returns-8
-    returns-9)
+    returns-7)

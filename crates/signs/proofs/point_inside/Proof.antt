@@ -1,13 +1,8 @@
--- `point_inside`: 3 or 2, where the cell that follows is that of a digit (`point-step`). Assumes nothing.
-use mathlib.Core.Bool.{true}
+-- `point_inside`: a point or a comma, where the cell that follows is that of a digit (`point-step`). Assumes nothing.
 use mathlib.Core.Logic.{inl, inr}
 use mathlib.Core.Path.{_≡_, refl, sym, ap, _∙_}
 use Prim.Native.Nat.{_+_}
-use Prim.Native.Char.{code}
-use Rattle.rules.specs.Cells.{dots}
-use Rattle.readings.specs.Deeds.{deeds}
 use Rattle.readings.specs.Fields.{cellOf}
-use Rattle.readings.specs.Words.{words}
 use Rattle.readings.specs.Readings.{digitCell}
 use Rattle.signs.proofs.Cases.{point-step}
 use borrow.Author.Needs.{needs}
@@ -21,10 +16,13 @@ use Rattle.signs.proofs.sign.Reads as sign-reads
 
 -- what was seen of the cell that follows
 abbrev start : tie.After-is-digit → tie.Start
-start d = d .before .before .before
+start d = d .before .before .before .before
 
 digit-told : (d : tie.After-is-digit) → d .is-digit .result ≡ digitCell (cellOf (start d .args .row .now) (start d .args .at + 1))
 digit-told d = d .is-digit .ensures ∙ ap digitCell (d .before .cell-at .ensures)
+
+returns : tie.Need-returns
+returns c = inl refl
 
 add-cell-at : tie.Need-add-cell-at
 add-cell-at c = search needs
@@ -41,52 +39,28 @@ add-sign c = search needs
 sign-requires : tie.Need-sign-requires
 sign-requires c κs = search needs
 
-returns : tie.Need-returns
-unfolding dots words deeds
-returns c =
-    let d = c .before .before .before in
+returns-2 : tie.Need-returns-2
+returns-2 c =
+    let d = c .before .before in
     let s = start d in
     inr (
       c .sign .ensures
-          ∙ point-step (s .args .row .now) (s .args .at) (s .args .opened) (dots 3) (code ".") (sym (s .pre .2) ∙ c .before .if2 .taken) refl refl refl (sym (digit-told d) ∙ c .before .before .if1 .taken),
-      (code ".", s .args .at + 1, c .sign .ensures),
-    )
-
-add-sign-2 : tie.Need-add-sign-2
-add-sign-2 c = search needs
-
-sign-requires-2 : tie.Need-sign-requires-2
-sign-requires-2 c κs = search needs
-
-returns-2 : tie.Need-returns-2
-unfolding dots words deeds
-returns-2 c =
-    let d = c .before .before .before .before in
-    let s = start d in
-    inr (
-      c .sign2 .ensures
-          ∙ point-step (s .args .row .now) (s .args .at) (s .args .opened) (dots 2) (code ",") (sym (s .pre .2) ∙ c .before .if3 .taken) refl refl refl (sym (digit-told d) ∙ c .before .before .before .if1 .taken),
-      (code ",", s .args .at + 1, c .sign2 .ensures),
+          ∙ point-step (s .args .row .now) (s .args .at) (s .args .opened) (s .args .point) (s .pre .2) (d .before .before .if1 .left) (sym (digit-told d) ∙ c .before .if2 .taken),
+      (s .args .point, s .args .at + 1, c .sign .ensures),
     )
 
 returns-3 : tie.Need-returns-3
 returns-3 c = inl refl
 
-returns-4 : tie.Need-returns-4
-returns-4 c = inl refl
-
 pub point-inside-spec : {M : Type 1} → statement M
 point-inside-spec =
     tie.close
     (tie.spec
+    returns
     add-cell-at
     cell-at-requires
     is-digit-requires
     add-sign
     sign-requires
-    returns
-    add-sign-2
-    sign-requires-2
     returns-2
-    returns-3
-    returns-4)
+    returns-3)
