@@ -217,7 +217,7 @@ j-of p = p .before .before
 
 alike-requires : tie.Need-alike-requires Inv-loop μ-loop
 alike-requires c κs =
-    let p = c .before .before .before .before .before .before .before in
+    let p = c .before .before .before .before in
     let k = j-of p in
     let l = at-w (of-j k) in
     let m = mid-on (l .loop .inv) (turn2 k) (in-w (of-j k) .loop-test .taken) (p .put2 .ensures) in
@@ -233,7 +233,7 @@ enum-told-3 c = search needs
 somewhere : (c : tie.After-enum-told3 Inv-loop μ-loop) → ⊥
 somewhere c =
     let a = c .before .before .before .before in
-    let k = j-of (a .before .before .before .before .before .before .before .before) in
+    let k = j-of (a .before .before .before .before .before) in
     let l = at-w (of-j k) in
     runs-somewhere (row l) (start l .args .stop) (next2 k) (mode-after2 k) (opened-after2 k) _ _ (a .alike .ensures) (c .enum-told3 .given .1)
 
@@ -250,7 +250,7 @@ abbrev a-of : A → tie.After-alike Inv-loop μ-loop
 a-of c = c .before .before .before .before .before
 
 abbrev p-of : A → P
-p-of c = a-of c .before .before .before .before .before .before .before .before
+p-of c = a-of c .before .before .before .before .before
 
 loop-less-2 : tie.Need-loop-less-2 Inv-loop μ-loop
 loop-less-2 c =
