@@ -194,7 +194,7 @@ $1 == "two" { ends[$6]; next }
 { dots[$1] = $2 }
 END {
     for (c = 0; c < 64; c++) print "        D" dots[c] " => " (c in ends ? "S" dots[c] : "NOTHING") ","
-    for (byte = 64; byte < 255; byte++) print "        " byte " => NOTHING," (byte == 64 ? " // from here on no cells" : "")
+    for (byte = 64; byte < 255; byte++) print "        " byte " => NOTHING," (byte == 64 ? " // behind the cells" : "")
 }'
 cat <<'TEXT'
         _ => NOTHING,

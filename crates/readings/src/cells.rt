@@ -1152,7 +1152,7 @@ pub fn second_word(cell: u8) -> u64
         D13456 => S13456,
         D23456 => NOTHING,
         D123456 => NOTHING,
-        64 => NOTHING, // from here on no cells
+        64 => NOTHING, // behind the cells
         65 => NOTHING,
         66 => NOTHING,
         67 => NOTHING,

@@ -499,7 +499,8 @@ fn point_inside(row: &[u8], at: usize, point: u32, opened: usize) -> Step
     if point == NO_POINT {
         return Step::Nothing;
     }
-    if is_digit(cell_at(row, at + 1)) {
+    let follows = cell_at(row, at + 1);
+    if is_digit(follows) {
         return sign(point, at + 1, MID, opened);
     }
     Step::Nothing
