@@ -61,7 +61,7 @@ returns-2 c =
       home-run (s .args .mode),
       inr (
         e ∙ run-step (s .args .row .now) (s .args .at) (s .args .mode) (s .args .opened) (p .field-in .result) (s .args .run) (s .pre .2) (s .pre .1) (w .before .if1 .left) (s .pre .3) (s .pre .4)
-        (p .field-in .ensures ∙ ap (λ (v : ℕ). fieldIn v (s .args .run)) (w .run-word .ensures)) (k .if2 .taken),
+            (p .field-in .ensures ∙ ap (λ (v : ℕ). fieldIn v (s .args .run)) (w .run-word .ensures)) (k .if2 .taken),
         (p .field-in .result, s .args .at + 1, e),
       ),
     )
@@ -72,10 +72,12 @@ field-in-requires-2 c κs = search needs
 point-inside-requires : tie.Need-point-inside-requires
 point-inside-requires c κs =
     let w = c .before .before .before .before in
-    let s = start w in
-    (s .pre .0, s .pre .1,
-    c .field-in2 .ensures ∙ ap (λ (v : ℕ). fieldIn v between) (w .run-word .ensures)
-    ∙ ap (λ (n : ℕ). runPoint (wordOf n) between) (cell-low (s .args .row .now) (s .args .at) (s .pre .1) (w .before .if1 .left)))
+    let s = start w in (
+      s .pre .0,
+      s .pre .1,
+      c .field-in2 .ensures ∙ ap (λ (v : ℕ). fieldIn v between) (w .run-word .ensures)
+          ∙ ap (λ (n : ℕ). runPoint (wordOf n) between) (cell-low (s .args .row .now) (s .args .at) (s .pre .1) (w .before .if1 .left)),
+    )
 
 returns-3 : tie.Need-returns-3
 returns-3 c =
