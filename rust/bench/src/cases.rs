@@ -30,7 +30,7 @@ pub fn lines<L>(count: usize, mut line: impl FnMut() -> L) -> Vec<L> {
 
 /// The texts of both directions.
 pub fn normal() -> Vec<Data> {
-    [of_prose(), drawn(), long(), short()].into_iter().flatten().collect()
+    [of_prose(), drawn(), long(), short(), few()].into_iter().flatten().collect()
 }
 
 /// Prose, in lines of three lengths.
@@ -98,5 +98,15 @@ fn short() -> Vec<Data> {
         again("pairs-40", "40: pairs: ¿?¿?", 20, "¿?", "", "⠢⠢"),
         again("quotes-40", "40: quotes: «a» «a»", 10, "«a» ", "", "⠦⠁⠦⠀"),
         again("empty", "empty: a call", 0, "", "", ""),
+    ]
+}
+
+/// Prose of a few code points, where the call takes more than the text.
+fn few() -> Vec<Data> {
+    let random = &mut Random::new();
+    vec![
+        Data { name: "prose-8", title: "prose, lines of 8", texts: lines(SHORT_LINES, || prose(random, 8)) },
+        Data { name: "prose-3", title: "prose, lines of 3", texts: lines(SHORT_LINES, || prose(random, 3)) },
+        Data { name: "prose-1", title: "prose, lines of 1", texts: lines(SHORT_LINES, || prose(random, 1)) },
     ]
 }
