@@ -127,8 +127,11 @@ const LOWER_CELLS: u64 = (1 << D2)
     + (1 << D35)
     + (1 << D356);
 
-// The mode after a capital that has a 46 of its own, for each mode before it, four bits for each: LONE where a run begins, and none (FREE) where no such capital
-// stands. (As one number, since of a `match` the compiler would make jumps, which the processor cannot foresee.)
+// How many bits a mode has.
+const MODE_BITS: usize = 4;
+
+// The mode after a capital that has a 46 of its own, for each mode before it: LONE where a run begins, and none (FREE) where no such capital stands. (As one
+// number, since of a `match` the compiler would make jumps, which the processor cannot foresee.)
 const AFTER_CAPITAL: u64 = ((LONE as u64) << (FREE * MODE_BITS))
     + ((OWING as u64) << (LONE * MODE_BITS))
     + ((MIXED as u64) << (MIXED * MODE_BITS))
@@ -140,8 +143,6 @@ const AFTER_CAPITAL: u64 = ((LONE as u64) << (FREE * MODE_BITS))
     + ((LONE as u64) << (DASH * MODE_BITS))
     + ((LONE as u64) << (NUM * MODE_BITS))
     + ((LONE as u64) << (UNDER * MODE_BITS));
-
-const MODE_BITS: usize = 4;
 
 // A lower digit is its digit with every dot a row lower, which counts twice as much: 14 counts 9, and 25 counts 18.
 const LOWERED: u8 = 2;
@@ -280,8 +281,8 @@ fn after_capital(mode: usize) -> usize
     (AFTER_CAPITAL >> (mode % MODE_PLACES * MODE_BITS)) as usize % MODE_PLACES
 }
 
-// After 46: a letter is a capital, and the mode before says the mode after it; where a run begins, 46 again and a letter begin one of capitals only; 2 makes >, where no small
-// letter is owed. (The capital is looked up in one place, so that the compiler draws the look-up in.)
+// After 46: a letter is a capital, and the mode before says the mode after it; where a run begins, 46 again and a letter begin one of capitals only; 2 makes >,
+// where no small letter is owed. (The capital is looked up in one place, so that the compiler draws the look-up in.)
 fn capital(row: &[u8], at: usize, mode: usize, opened: usize) -> Step
     requires { ⌜ (length (now row) ≤ longestRow) × (at < length (now row)) ⌝ }
     ensures { λ r. ⌜ r ≡ stepOf at opened (capitalBy mode (cellOf (now (row .entry)) (at + 1)) (cellOf (now (row .entry)) (at + 2))) ⌝ }
@@ -346,6 +347,7 @@ fn field_in(word: u64, at: usize) -> u32
 }
 
 // A sign that begins with a cell that is none by itself and whose word is at hand. "A lower-case a to j directly after a number's last digit has cell 5 before it."
+// (Of ‘ and ’, which have the same cells, the look-up has the opener.)
 fn prefixed(row: &[u8], at: usize, word: u64, deed: usize, opened: usize) -> Step
     requires { ⌜ (length (now row) ≤ longestRow) × (at < length (now row)) × (opened < openStates) ⌝ }
     ensures { λ r. ⌜ r ≡ stepOf at opened (prefixBy deed word (cellOf (now (row .entry)) (at + 1)) (cellOf (now (row .entry)) (at + 2))) ⌝ }
