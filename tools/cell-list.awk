@@ -4,8 +4,8 @@
 #     3 12 B_TO_J 0x62 0x42 0x32 none none 0x32 b B 2
 #     38 236 MARK_OR_LOW none none none 0x38 2 none « » 8
 #
-# and behind them, after `two`, each sign of two cells whose first is none by itself, by its code point (but for 46 and 36: what
-# follows them is code's to decide), with the number of the first among such cells, and the cell of the second:
+# and behind them, after `two`, each sign of two cells whose first is none by itself, by its code point (but for 46: what
+# follows it is code's to decide), with the number of the first among such cells, and the cell of the second:
 #
 #     two FIRST SECOND POINT NUMBER CELL COMMENT
 #     two 5 123 0x7b 0 7 {

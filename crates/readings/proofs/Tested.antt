@@ -4,8 +4,8 @@ use mathlib.Core.Bool.{Bool, true, false, _&&_, _||_, not}
 use mathlib.Core.List.{List, [], _∷_}
 use mathlib.Core.Option.{Option, none, some}
 use Prim.Native.Nat.{ℕ, _+_}
-use lib.Dec.{T, eqb, leb}
 use Prim.Native.Char.{code}
+use lib.Dec.{T, eqb, leb}
 use lib.ListN.{length}
 use Rattle.rules.specs.Cells.{dots}
 use Rattle.rules.specs.Sorts.{class, isDigitCell}

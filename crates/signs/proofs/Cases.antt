@@ -9,7 +9,7 @@ use native.Mathlib.Omega.{arith}
 use native.Mathlib.Nat.{not-suc-le-zero, le-of-suc-le-suc}
 use lib.Dec.{T, eqb, leb, ltb, ltb→lt, eqb→eq}
 use lib.ListN.{length, getD, List·getD-eq-default}
-use borrow.Author.Tests.{eq-eqb, ne-eqb, lt-ltb, le-ltb, le-leb, lt-leb, leb-true, not-true}
+use borrow.Author.Tests.{eq-eqb, ne-eqb, le-leb, lt-leb, leb-true, not-true}
 use Rattle.rules.specs.Cells.{Row, dots, lastCell}
 use Rattle.rules.specs.Pairs.{kinds}
 use Rattle.rules.proofs.Finite.{below, at-below, beq-same, and-false, le-or-lt, implies}
@@ -179,9 +179,13 @@ module _ (at o z : ℕ) where
   unfolding percentBy
   percent-alone n = rw (ne-eqb z (dots 356) n)
 
--- AFTER 46: the mode after a capital, by the mode before it, is what the code's number has
+-- AFTER 46: the mode after a capital, by the mode before it, is what the code's number has, four bits for each
+abbrev packed : List ℕ → ℕ
+packed [] = 0
+packed (m ∷ ms) = m + 16 * packed ms
+
 abbrev pub afterCapitals : ℕ
-afterCapitals = 72340791582786193
+afterCapitals = packed capitalModes
 
 afters-right : T (below (λ n. eqb (afterCapitals / 2 ^ (n * 4) % 16) (getD capitalModes n mode.free)) modeCount)
 afters-right = tt
@@ -554,12 +558,11 @@ between-told c n = has-field (λ w. runPoint w between) refl between-test tt c n
 pub point-step : (row : Row) (at o p : ℕ) → p ≡ runPoint (wordOf (cellOf row at)) between → (p ≡ noPoint → ⊥) → digitCell (cellOf row (at + 1)) ≡ true
     → variant.Sign noPoint p (at + 1) mode.mid o ≡ stepAt row at mode.num o
 point-step row at o p e n f =
-    let x : ℕ = cellOf row at in
     let w : ℕ = wordOf (cellOf row at) in
-    let t = both (not (usualIn (wordOf x) mode.num)) (eqb act.point (deedOf mode.num (classIn (wordOf x))) && eqb (runPoint (wordOf x) between) (pointIn (wordOf x)))
-    (between-told x (ap not (ne-eqb (runPoint (wordOf x) between) noPoint (λ q. n (e ∙ q))))) in
-    let u = both (eqb act.point (deedOf mode.num (classIn (wordOf x)))) (eqb (runPoint (wordOf x) between) (pointIn (wordOf x))) (t .1) in
-    point-inside at o mode.num act.point w (cellOf row (at + 1)) (cellOf row (at + 2)) refl f p (e ∙ eqb→eq (runPoint (wordOf x) between) (pointIn (wordOf x)) (u .1))
+    let t = both (not (usualIn w mode.num)) (eqb act.point (deedOf mode.num (classIn w)) && eqb (runPoint w between) (pointIn w))
+    (between-told (cellOf row at) (ap not (ne-eqb (runPoint w between) noPoint (λ q. n (e ∙ q))))) in
+    let u = both (eqb act.point (deedOf mode.num (classIn w))) (eqb (runPoint w between) (pointIn w)) (t .1) in
+    point-inside at o mode.num act.point w (cellOf row (at + 1)) (cellOf row (at + 2)) refl f p (e ∙ eqb→eq (runPoint w between) (pointIn w) (u .1))
     ∙ by-deed row at mode.num o w refl (not-true (usualIn w mode.num) (is-true (not (usualIn w mode.num)) (t .0))) act.point
     (eqb→eq act.point (deedOf mode.num (classIn w)) (u .0)) (askedBy mode.num act.point w (cellOf row (at + 1)) (cellOf row (at + 2))) refl
 

@@ -1,5 +1,4 @@
 -- `after_capital`: four bits of the number for each mode (`after-told`). Assumes nothing.
-use mathlib.Core.Path.{_≡_}
 use Rattle.signs.proofs.Cases.{after-told}
 use borrow.Author.Needs.{needs}
 use Rattle.signs.proofs.after_capital.Statement.{statement}

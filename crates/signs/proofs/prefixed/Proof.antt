@@ -2,7 +2,7 @@
 use mathlib.Core.Path.{_≡_, sym, ap, _∙_}
 use mathlib.Core.Logic.{⊎-elim}
 use Prim.Native.Nat.{ℕ, _+_, _*_}
-use Rattle.readings.specs.Fields.{letterIn, kindIn, fieldIn, cellOf}
+use Rattle.readings.specs.Fields.{letterIn, fieldIn, cellOf}
 use Rattle.readings.specs.Words.{wordOf, secondOf}
 use Rattle.readings.specs.Readings.{digitCell, twoOf}
 use Rattle.signs.proofs.Cases.{separated-letter, Longer, no-digit, no-separator, is-percent, is-quote, two-none, two-sign}
