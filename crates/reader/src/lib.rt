@@ -134,7 +134,7 @@ fn copy(draft: &[u32], text: &mut [u32])
 
 // Walks a whole row. That a longer one is of cells was asked before.
 fn walk_whole(row: &[u8], draft: &mut [u32]) -> Walked
-    requires { ⌜ (length (now row) ≤ longestRow) × (1 ≤ length (now draft)) × (lineRow < length (now row) → AllCells (now row)) ⌝ }
+    requires { ⌜ (length (now row) ≤ longestRow) × (length (now draft) ≤ longestRow) × (lineRow < length (now row) → AllCells (now row)) ⌝ }
     ensures { λ r. ⌜ Goes (now (row .entry)) (length (now (row .entry))) 0 free 0 0 (now (draft .entry)) (now (draft .exit)) r ⌝ }
 {
     if LINE_ROW < row.len() {
@@ -146,7 +146,7 @@ fn walk_whole(row: &[u8], draft: &mut [u32]) -> Walked
 // Reads a row by way of a draft, which has room for any text of the row, or for the longest that is accepted. The walk is lent nothing that the caller
 // lent, so a refusal leaves that as it was. (One walk and a copy are faster than two walks, the first without room.)
 fn read_by(row: &[u8], draft: &mut [u32], text: &mut [u32]) -> Answer
-    requires { ⌜ (length (now row) ≤ longestRow) × (1 ≤ length (now draft)) × (lineRow < length (now row) → AllCells (now row)) × ((length (now row) ≤ length (now draft)) ⊎ (longestText ≤ length (now draft))) ⌝ }
+    requires { ⌜ (length (now row) ≤ longestRow) × (length (now draft) ≤ longestRow) × (lineRow < length (now row) → AllCells (now row)) × ((length (now row) ≤ length (now draft)) ⊎ (longestText ≤ length (now draft))) ⌝ }
     ensures { λ r. ⌜ Read castilian (now (row .entry)) (now (text .entry)) r (now (text .exit)) ⌝ }
 {
     match walk_whole(row, draft) {

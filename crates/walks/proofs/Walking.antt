@@ -1,11 +1,11 @@
 -- Signs one after another (`Leads`). In order: signs joined; a turn more; a walk in the middle of a part (`Mid`), and its ends; a quick reading; cells that are
 -- only counted; the sign at a place of signs joined. Assumes nothing.
 use mathlib.Core.Path.{_≡_, refl, sym, ap, _∙_, subst}
-use mathlib.Core.Bool.{Bool, true, false}
+use mathlib.Core.Bool.{Bool, true, false, cond}
 use mathlib.Core.List.{List, [], _∷_, _++_, append-assoc, append-nil}
 use mathlib.Core.Logic.{_⊎_, inl, inr, ⊎-elim}
 use mathlib.Core.Option.{Option, none, some}
-use Prim.Native.Nat.{ℕ, zero, suc, _+_, _-_, _*_, _≤_, _<_}
+use Prim.Native.Nat.{ℕ, zero, suc, _+_, _-_, _*_, _≤_, _<_, zero-le}
 use native.Mathlib.Omega.{arith}
 use native.Mathlib.Nat.{add-zero}
 use lib.Dec.{eqb, leb}
@@ -18,9 +18,9 @@ use Rattle.rules.specs.Refusals.{longestRow}
 use Rattle.rules.proofs.Finite.{le-or-lt}
 use Rattle.pairs.specs.Opened.{openStates}
 use Rattle.readings.specs.Modes.{modeCount, free, mixed}
-use Rattle.readings.specs.Fields.{pointIn, thenIn}
+use Rattle.readings.specs.Fields.{pointIn, thenIn, kindIn}
 use Rattle.readings.specs.Words.{wordOf}
-use Rattle.readings.specs.Readings.{noPoint}
+use Rattle.readings.specs.Readings.{noPoint, stepOf, usualBy, aMark, one}
 use Rattle.readings.specs.Left.{left, addSign}
 use Rattle.readings.specs.Print.{points}
 use Rattle.signs.specs.Among.{aloneCell}
@@ -29,10 +29,10 @@ use Rattle.signs.proofs.Cases.{alone-modes, alone-step}
 use Rattle.readings.specs.declared.Step.{Step}
 use Rattle.readings.specs.declared.Step.the-variants as step
 use Rattle.readings.proofs.Turning.{Turn, turn-of}
-use Rattle.walks.specs.Walks.{Wrote, mostPoints, addSigns, Starts, CellsFrom, Leads, Runs, runs-on, Goes, goes-on, goes-nowhere, AllCells, Alone, Tallied}
+use Rattle.walks.specs.Walks.{Wrote, Room, RoomLeft, room-left, Strides, strides-on, strides-nowhere, mostPoints, addSigns, Starts, CellsFrom, Leads, Runs, runs-on, Goes, goes-on, goes-nowhere, AllCells, Alone, Tallied}
 use Rattle.walks.specs.declared.Walked.{Walked}
 use Rattle.walks.specs.declared.Walked.the-variants.{On, Nowhere}
-use Rattle.readings.proofs.Print.{points-width}
+use Rattle.readings.proofs.Print.{points-width, points-one}
 use Rattle.walks.proofs.Writing.{wrote-none, wrote-on, wrote-full}
 
 -- SIGNS JOINED
@@ -160,9 +160,9 @@ module _ {row : Row} {stop from m₀ o₀ n₀ m o n at : ℕ} {t₀ t : List �
   mid-most : length row ≤ longestRow → n₀ ≤ 2 * from → n ≤ mostPoints
   mid-most h k = omega (arith, mid-few k, mid .leads .within)
 
-  -- what `put` asks for
-  pub mid-put : length row ≤ longestRow → n₀ ≤ 2 * from → 1 ≤ length t₀ → (n ≤ mostPoints) × (1 ≤ length t)
-  mid-put h k l = (mid-most h k, omega (arith, mid .wrote .0, l))
+  -- what `put` asks for, at a place before which there is room
+  pub mid-put : length row ≤ longestRow → n₀ ≤ 2 * from → (limit : ℕ) → Room limit at n (length t₀) → at < limit → (n ≤ mostPoints) × (n < length t)
+  mid-put h k limit room l = (mid-most h k, omega (arith, mid .wrote .0, room, l))
 
   -- more signs, and one
   pub mid-join : {k n' u c : ℕ} {t' : List ℕ} → Runs row stop at m o n t t' (On k n' u c) → Mid row stop from m₀ o₀ n₀ t₀ t' n' u c k
@@ -201,15 +201,54 @@ module _ {row : Row} {stop from m₀ o₀ n₀ m o n at : ℕ} {t₀ t : List �
   mid-lost w (goes-on ss j m' v d leads reached count wrote) e = let z : _≡_ {A = ℕ} 0 1 = cc in absurd (omega arith)
   mid-lost w (goes-nowhere j within cells none-left same) e = (none-left, same)
 
-  pub mid-nowhere : left m o (drop at row) ≡ none → Goes row stop from m₀ o₀ n₀ t₀ t (Nowhere at)
-  mid-nowhere e = goes-nowhere at (mid .leads .within) (mid .leads .cells) (leads-nowhere (mid .leads) e) (mid .wrote .0)
+  -- a stretch, and one that is only counted
+  pub mid-stride : {t' : List ℕ} (w : Walked) → Strides row stop at m o n t t' w → {k n' u c : ℕ} → w ≡ On k n' u c
+      → Mid row stop from m₀ o₀ n₀ t₀ t' n' u c k × (at < stop → at < k)
+  mid-stride w (strides-on ss j m' v d leads further count wrote) {k} e =
+      let f : j ≡ k = cc in
+      (mid-more w (runs-on ss j m' v d leads count wrote) e, λ h. omega (arith, further h, f))
+  mid-stride w (strides-nowhere j none-left same) e = let z : _≡_ {A = ℕ} 0 1 = cc in absurd (omega arith)
+
+  pub mid-uncounted : length t ≤ n → (w : Walked) → Strides row stop at m o 0 [] [] w → {k n' u c : ℕ} → w ≡ On k n' u c
+      → Mid row stop from m₀ o₀ n₀ t₀ t n' u (n + c) k × (at < stop → at < k)
+  mid-uncounted full w (strides-on ss j m' v d leads further count wrote) {k} {n'} {u} {c} e =
+      let f : j ≡ k = cc in
+      let g : d ≡ c = cc in
+      let q : w ≡ On j m' v d = refl in
+      (mid-more (On j m' v (n + d)) (runs-on ss j m' v (n + d) leads (omega (arith, count)) (wrote-full t n (printOf ss) full)) cc, λ h. omega (arith, further h, f))
+  mid-uncounted full w (strides-nowhere j none-left same) e = let z : _≡_ {A = ℕ} 0 1 = cc in absurd (omega arith)
+
+  pub mid-strayed : {n' : ℕ} {t' t'' : List ℕ} (w : Walked) → Strides row stop at m o n' t' t'' w → {k : ℕ} → w ≡ Nowhere k
+      → (left m o (drop at row) ≡ none) × (length t'' ≡ length t')
+  mid-strayed w (strides-on ss j m' v d leads further count wrote) e = let z : _≡_ {A = ℕ} 0 1 = cc in absurd (omega arith)
+  mid-strayed w (strides-nowhere j none-left same) e = (none-left, same)
+
+  -- the ends of a stretch
+  pub mid-strides : (from < stop → from < at) → Strides row stop from m₀ o₀ n₀ t₀ t (On at m o n)
+  mid-strides further = strides-on (mid .signs) at m o n (mid .leads) further (mid .count) (mid .wrote)
+
+  pub mid-astray : left m o (drop at row) ≡ none → {k : ℕ} → Strides row stop from m₀ o₀ n₀ t₀ t (Nowhere k)
+  mid-astray e {k} = strides-nowhere k (leads-nowhere (mid .leads) e) (mid .wrote .0)
+
+  pub mid-nowhere : {t' : List ℕ} → left m o (drop at row) ≡ none → length t' ≡ length t → Goes row stop from m₀ o₀ n₀ t₀ t' (Nowhere at)
+  mid-nowhere e same = goes-nowhere at (mid .leads .within) (mid .leads .cells) (leads-nowhere (mid .leads) e) (same ∙ mid .wrote .0)
 
   pub mid-end : stop ≤ at → Goes row stop from m₀ o₀ n₀ t₀ t (On at m o n)
   mid-end h = goes-on (mid .signs) at m o n (mid .leads) h (mid .count) (mid .wrote)
 
+-- ROOM that is left
+pub room-of : {stop room : ℕ} (w : Walked) → RoomLeft stop room w → {k m u c : ℕ} → w ≡ On k m u c → Room stop k c room
+room-of {stop} {room} w (room-left j m' v d h) {k} {m} {u} {c} e =
+    let f : j ≡ k = cc in
+    let g : d ≡ c = cc in
+    omega (arith, h, f, g)
+
 -- of loops over signs that are alike: from the same mode, always to a place, and forward
 pub runs-from : (row : Row) (stop at o n : ℕ) {m m' : ℕ} {t t' : List ℕ} (w : Walked) → m ≡ m' → Runs row stop at m' o n t t' w → Runs row stop at m o n t t' w
 runs-from row stop at o n {t = t} {t' = t'} w e h = subst (λ (i : ℕ). Runs row stop at i o n t t' w) (sym e) h
+
+pub runs-wider : {row : Row} {stop stop' at m o n : ℕ} {t t' : List ℕ} (w : Walked) → stop ≤ stop' → Runs row stop at m o n t t' w → Runs row stop' at m o n t t' w
+runs-wider w h (runs-on ss k m' u c leads count wrote) = runs-on ss k m' u c (leads-wider leads h) count wrote
 
 pub runs-somewhere : (row : Row) (stop at m o n : ℕ) {t t' : List ℕ} (w : Walked) → Runs row stop at m o n t t' w → {j : ℕ} → w ≡ Nowhere j → ⊥
 runs-somewhere row stop at m o n w (runs-on ss k m' u c leads count wrote) e = let z : _≡_ {A = ℕ} 0 1 = cc in omega arith
@@ -217,20 +256,37 @@ runs-somewhere row stop at m o n w (runs-on ss k m' u c leads count wrote) e = l
 pub runs-forward : (row : Row) (stop at m o n : ℕ) {t t' : List ℕ} (w : Walked) → Runs row stop at m o n t t' w → {k n' u c : ℕ} → w ≡ On k n' u c → at ≤ k
 runs-forward row stop at m o n w (runs-on ss j m' v d leads count wrote) {k} e = let f : j ≡ k = cc in omega (arith, leads .next-is, f)
 
--- A QUICK READING that gives a sign is a turn; in a run the mode that it leaves is in the same run
+-- of a stretch: the same of a text that has no room
+pub strides-unwritten : {row : Row} {stop at m o n : ℕ} {t t' : List ℕ} (w : Walked) → Strides row stop at m o n t t' w → Strides row stop at m o n [] [] w
+strides-unwritten {n = n} w (strides-on ss k m' u c leads further count wrote) = strides-on ss k m' u c leads further count (wrote-full [] n (printOf ss) zero-le)
+strides-unwritten w (strides-nowhere k none-left same) = strides-nowhere k none-left refl
+
+-- A QUICK READING that gives a sign is a turn, and that of one code point; in a run the mode that it leaves is in the same run
 pub quick-turn : (row : Row) (at m m' o : ℕ) → at < length row → m < modeCount → o < openStates → (s : Step) → Quick row at m m' o s
-    → (l p k n u : ℕ) → s ≡ step.Sign l p k n u → (n ≡ m') × Turn row at m o l p k m' o
+    → (l p k n u : ℕ) → s ≡ step.Sign l p k n u → (n ≡ m') × Turn row at m o l p k m' o × (length (points l p) ≡ 1)
 quick-turn row at m m' o inside small few s (inl e) l p k n u q = let z : _≡_ {A = ℕ} 0 1 = cc in absurd (omega arith)
 quick-turn row at m m' o inside small few s (inr h) l p k n u q =
     let e : n ≡ m' = cc in
     let f : u ≡ o = cc in
-    (e, turn-of row at m o inside small few l p k m' o (sym (h .0) ∙ q ∙ ap (λ (i : ℕ). step.Sign l p k i u) e ∙ ap (λ (i : ℕ). step.Sign l p k m' i) f))
+    let g : l ≡ noPoint = cc in (
+      e,
+      turn-of row at m o inside small few l p k m' o (sym (h .0) ∙ q ∙ ap (λ (i : ℕ). step.Sign l p k i u) e ∙ ap (λ (i : ℕ). step.Sign l p k m' i) f),
+      ap length (points-one l p g),
+    )
 
 pub run-turn : (row : Row) (at m o : ℕ) → at < length row → m < modeCount → o < openStates → (s : Step) → InRun row at m o s
-    → (l p k n u : ℕ) → s ≡ step.Sign l p k n u → (runOf n ≡ runOf m) × Turn row at m o l p k n o
+    → (l p k n u : ℕ) → s ≡ step.Sign l p k n u → (runOf n ≡ runOf m) × Turn row at m o l p k n o × (length (points l p) ≡ 1)
 run-turn row at m o inside small few s (m', e, h) l p k n u q =
     let t = quick-turn row at m m' o inside small few s h l p k n u q in
-    subst (λ (i : ℕ). (runOf i ≡ runOf m) × Turn row at m o l p k i o) (sym (t .0)) (e, t .1)
+    subst (λ (i : ℕ). (runOf i ≡ runOf m) × Turn row at m o l p k i o × (length (points l p) ≡ 1)) (sym (t .0)) (e, t .1, t .2)
+
+-- a sign that is read as usual has one code point too
+pub usual-one : (at o w l p k n u : ℕ) → stepOf at o (usualBy w) ≡ step.Sign l p k n u → length (points l p) ≡ 1
+usual-one at o w l p k n u = go (eqb (pointIn w) noPoint)
+  where
+    go : (b : Bool) → stepOf at o (cond b (aMark (kindIn w) 1) (one (pointIn w) 1 (thenIn w))) ≡ step.Sign l p k n u → length (points l p) ≡ 1
+    go true e = let g : l ≡ noPoint = cc in ap length (points-one l p g)
+    go false e = let g : l ≡ noPoint = cc in ap length (points-one l p g)
 
 pub alone-more : {row : Row} {at k : ℕ} → Alone row at k → k < length row → aloneCell (getD row k 0) ≡ true → Alone row at (k + 1)
 alone-more {row} {at} {k} are inside is =

@@ -45,11 +45,8 @@ wrote-nowhere t new n p h e = (ap length e, λ k. absurd (omega (arith, h, k)))
 
 -- THE ENDS OF `put`: a sign without a lead, or with one, behind n elements
 module _ (t new : List ℕ) (n l p : ℕ) where
-  pub put-one : l ≡ 0 → (k : ℕ) → (n < length t → k ≡ n) → new ≡ set t k p → (n + 1 ≡ n + length (points l p)) × Wrote t new n (points l p)
-  put-one e k there stored = rw (points-one l p e) (
-    refl,
-    (ap length stored ∙ length-set t k p, λ h. stored ∙ ap (λ (i : ℕ). set t i p) (there (omega (arith, h))) ∙ stores t n (p ∷ []) h),
-  )
+  pub put-one : l ≡ 0 → new ≡ set t n p → (n + 1 ≡ n + length (points l p)) × Wrote t new n (points l p)
+  put-one e stored = rw (points-one l p e) (refl, wrote-stores t new n (p ∷ []) stored)
 
   pub put-two : (l ≡ 0 → ⊥) → (new ≡ set (set t n l) (n + 1) p) ⊎ ((length t < n + 2) × (new ≡ t))
       → (n + 2 ≡ n + length (points l p)) × Wrote t new n (points l p)

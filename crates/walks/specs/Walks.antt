@@ -24,6 +24,10 @@ use Rattle.walks.specs.declared.Walked.the-variants.{On, Nowhere}
 abbrev pub Wrote : List ℕ → List ℕ → ℕ → Text → Type 0
 Wrote t t' n p = (length t' ≡ length t) × (n + length p ≤ length t → t' ≡ take n t ++ laid p (drop n t))
 
+-- there is room for n code points, and for one more for each cell from `at` on that stands before a place
+abbrev pub Room : ℕ → ℕ → ℕ → ℕ → Type 0
+Room stop at n room = n + stop ≤ at + room
+
 -- more code points than a row has, whatever it is
 abbrev pub mostPoints : ℕ
 mostPoints = 2 * longestRow
@@ -60,6 +64,16 @@ pub record Leads (row : Row) (stop at m o k n u : ℕ) (ss : List Sign) : Type 0
 pub data Runs (row : Row) (stop at m o n : ℕ) (t t' : List ℕ) : Walked → Type 0 where
   runs-on : (ss : List Sign) (k m' u c : ℕ) → Leads row stop at m o k m' u ss → c ≡ n + length (printOf ss) → Wrote t t' n (printOf ss)
       → Runs row stop at m o n t t' (On k m' u c)
+
+-- and each has a cell for itself, so that there is room as before
+pub data RoomLeft (stop room : ℕ) : Walked → Type 0 where
+  room-left : (k m u c : ℕ) → Room stop k c room → RoomLeft stop room (On k m u c)
+
+-- WHAT A STRETCH FINDS: signs up to a place, or as far as there is room, but one at least; or that no text has the row
+pub data Strides (row : Row) (stop at m o n : ℕ) (t t' : List ℕ) : Walked → Type 0 where
+  strides-on : (ss : List Sign) (k m' u c : ℕ) → Leads row stop at m o k m' u ss → (at < stop → at < k) → c ≡ n + length (printOf ss) → Wrote t t' n (printOf ss)
+      → Strides row stop at m o n t t' (On k m' u c)
+  strides-nowhere : (k : ℕ) → left m o (drop at row) ≡ none → length t' ≡ length t → Strides row stop at m o n t t' (Nowhere k)
 
 -- WHAT A WALK FINDS over a part of the row, behind n code points, and what it writes
 pub data Goes (row : Row) (stop at m o n : ℕ) (t t' : List ℕ) : Walked → Type 0 where

@@ -8,7 +8,7 @@ use readings::NO_POINT;
 use readings::OWING;
 use readings::Step;
 use signs::NO_RUN;
-ghost use mathlib.Core.List.{List};
+ghost use mathlib.Core.List.{List, []};
 ghost use mathlib.Core.Path.{_≡_};
 ghost use Prim.Native.Nat.{ℕ, _+_, _*_, _≤_, _<_};
 ghost use lib.ListN.{length};
@@ -16,8 +16,9 @@ ghost use Rattle.rules.specs.Refusals.{longestRow};
 ghost use Rattle.pairs.specs.Opened.{openStates};
 ghost use Rattle.readings.specs.Modes.{modeCount, free, owing, dash};
 ghost use Rattle.readings.specs.Print.{points};
+ghost use Rattle.readings.specs.Readings.{noPoint};
 ghost use Rattle.signs.specs.Runs.{noRun, runOf};
-ghost use Rattle.walks.specs.Walks.{mostPoints, Wrote, Runs, Goes, AllCells, Alone, Tallied};
+ghost use Rattle.walks.specs.Walks.{mostPoints, Wrote, Room, RoomLeft, Runs, Strides, Goes, AllCells, Alone, Tallied};
 
 // What a walk over a part of the row finds: the place that it comes to, what the signs up to it leave (the mode and the open pairs), and how many code
 // points are counted; or that no text has the row, and a place before which every byte that it walked over is a cell.
@@ -31,16 +32,13 @@ pub enum Walked {
     Nowhere(usize),
 }
 
-// Writes a sign's code points behind those that are counted, if there is room for them, and counts them. (One that has no room is written to the last element:
-// the text does not fit then, whatever stands there, and the machine has no jump to take.)
+// Writes a sign's code points behind those that are counted, and counts them. There is room for one; two that have no room both are only counted.
 fn put(text: &mut [u32], count: usize, lead: u32, point: u32) -> usize
-    requires { ⌜ (count ≤ mostPoints) × (1 ≤ length (now text)) ⌝ }
+    requires { ⌜ (count ≤ mostPoints) × (count < length (now text)) ⌝ }
     ensures { λ r. ⌜ (r ≡ count + length (points lead point)) × Wrote (now (text .entry)) (now (text .exit)) count (points lead point) ⌝ }
 {
     if lead == NO_POINT {
-        let last = text.len() - 1;
-        let place = if count < last { count } else { last };
-        text[place] = point;
+        text[count] = point;
         return count + 1;
     }
     if count + 2 <= text.len() {
@@ -60,8 +58,8 @@ fn dashes(
     text: &mut [u32],
     counted: usize,
 ) -> Walked
-    requires { ⌜ (length (now row) ≤ longestRow) × (from ≤ length (now row)) × (stop ≤ length (now row)) × (unclosed < openStates) × (counted ≤ 2 * from) × (1 ≤ length (now text)) ⌝ }
-    ensures { λ r. ⌜ Runs (now (row .entry)) stop from dash unclosed counted (now (text .entry)) (now (text .exit)) r ⌝ }
+    requires { ⌜ (length (now row) ≤ longestRow) × (from ≤ length (now row)) × (stop ≤ length (now row)) × (unclosed < openStates) × (counted ≤ 2 * from) × Room stop from counted (length (now text)) ⌝ }
+    ensures { λ r. ⌜ Runs (now (row .entry)) stop from dash unclosed counted (now (text .entry)) (now (text .exit)) r × RoomLeft stop (length (now (text .entry))) r ⌝ }
 {
     let mut at: usize = from;
     let mut count: usize = counted;
@@ -101,8 +99,8 @@ fn capitals(
     text: &mut [u32],
     counted: usize,
 ) -> Walked
-    requires { ⌜ (length (now row) ≤ longestRow) × (from ≤ length (now row)) × (stop ≤ length (now row)) × (unclosed < openStates) × (counted ≤ 2 * from) × (1 ≤ length (now text)) ⌝ }
-    ensures { λ r. ⌜ Runs (now (row .entry)) stop from owing unclosed counted (now (text .entry)) (now (text .exit)) r ⌝ }
+    requires { ⌜ (length (now row) ≤ longestRow) × (from ≤ length (now row)) × (stop ≤ length (now row)) × (unclosed < openStates) × (counted ≤ 2 * from) × Room stop from counted (length (now text)) ⌝ }
+    ensures { λ r. ⌜ Runs (now (row .entry)) stop from owing unclosed counted (now (text .entry)) (now (text .exit)) r × RoomLeft stop (length (now (text .entry))) r ⌝ }
 {
     let mut at: usize = from;
     let mut count: usize = counted;
@@ -143,8 +141,8 @@ fn run(
     text: &mut [u32],
     counted: usize,
 ) -> Walked
-    requires { ⌜ (length (now row) ≤ longestRow) × (from ≤ length (now row)) × (stop ≤ length (now row)) × (begun < modeCount) × (unclosed < openStates) × (counted ≤ 2 * from) × (1 ≤ length (now text)) × (runOf begun < noRun) ⌝ }
-    ensures { λ r. ⌜ Runs (now (row .entry)) stop from begun unclosed counted (now (text .entry)) (now (text .exit)) r ⌝ }
+    requires { ⌜ (length (now row) ≤ longestRow) × (from ≤ length (now row)) × (stop ≤ length (now row)) × (begun < modeCount) × (unclosed < openStates) × (counted ≤ 2 * from) × Room stop from counted (length (now text)) × (runOf begun < noRun) ⌝ }
+    ensures { λ r. ⌜ Runs (now (row .entry)) stop from begun unclosed counted (now (text .entry)) (now (text .exit)) r × RoomLeft stop (length (now (text .entry))) r ⌝ }
 {
     let field = signs::run_of(begun);
     let mut mode_now: usize = begun;
@@ -188,8 +186,8 @@ fn alike(
     text: &mut [u32],
     counted: usize,
 ) -> Walked
-    requires { ⌜ (length (now row) ≤ longestRow) × (from ≤ length (now row)) × (stop ≤ length (now row)) × (begun < modeCount) × (unclosed < openStates) × (counted ≤ 2 * from) × (1 ≤ length (now text)) ⌝ }
-    ensures { λ r. ⌜ Runs (now (row .entry)) stop from begun unclosed counted (now (text .entry)) (now (text .exit)) r ⌝ }
+    requires { ⌜ (length (now row) ≤ longestRow) × (from ≤ length (now row)) × (stop ≤ length (now row)) × (begun < modeCount) × (unclosed < openStates) × (counted ≤ 2 * from) × Room stop from counted (length (now text)) ⌝ }
+    ensures { λ r. ⌜ Runs (now (row .entry)) stop from begun unclosed counted (now (text .entry)) (now (text .exit)) r × RoomLeft stop (length (now (text .entry))) r ⌝ }
 {
     if begun == DASH {
         return dashes(row, from, stop, unclosed, text, counted);
@@ -208,10 +206,41 @@ fn alike(
     }
 }
 
+// Up to where there is room for a code point for each cell from a place on, but not behind the place `stop`.
+fn limit_of(at: usize, stop: usize, room: usize, count: usize) -> usize
+    requires { ⌜ (count ≤ at + room) × (at ≤ longestRow) × (room ≤ longestRow) ⌝ }
+    ensures { λ r. ⌜ (r ≤ stop) × Room r at count room × (at < stop → count < room → at < r) ⌝ }
+{
+    if room < count {
+        return 0;
+    }
+    let most = at + (room - count);
+    if most < stop { most } else { stop }
+}
+
+// The same behind a sign. (One of one code point has a cell for it, and leaves as much room to the cells behind it. One of two may have but one cell.)
+fn limit_behind(
+    lead: u32,
+    limit: usize,
+    next: usize,
+    stop: usize,
+    room: usize,
+    count: usize,
+) -> usize
+    requires { ⌜ (limit ≤ stop) × (count ≤ next + room) × (next ≤ longestRow) × (room ≤ longestRow) × (lead ≡ noPoint → Room limit next count room) ⌝ }
+    ensures { λ r. ⌜ (r ≤ stop) × Room r next count room ⌝ }
+{
+    if lead == NO_POINT {
+        return limit;
+    }
+    limit_of(next, stop, room, count)
+}
+
 // "each step gives the print of the next sign and the place after it." From a place, where a sign starts, with what the signs before it leave (`begun` is the
-// mode, `unclosed` are the open pairs), as long as the next sign starts before the place `stop`. Their print is written behind the code points that are counted,
-// if there is room. Behind some signs more may follow alike, and those are read at once. (Behind most signs none may: their modes are the lowest.)
-pub fn walk(
+// mode, `unclosed` are the open pairs), as long as the next sign starts before the place `stop` and there is room for what is read: so of room nothing is asked at each
+// sign. The print is written behind the code points that are counted. Behind some signs more may follow alike, and those are read at once. (Behind most
+// signs none may: their modes are the lowest.)
+fn stretch(
     row: &[u8],
     from: usize,
     stop: usize,
@@ -220,14 +249,15 @@ pub fn walk(
     text: &mut [u32],
     counted: usize,
 ) -> Walked
-    requires { ⌜ (length (now row) ≤ longestRow) × (from ≤ length (now row)) × (stop ≤ length (now row)) × (begun < modeCount) × (unclosed < openStates) × (counted ≤ 2 * from) × (1 ≤ length (now text)) ⌝ }
-    ensures { λ r. ⌜ Goes (now (row .entry)) stop from begun unclosed counted (now (text .entry)) (now (text .exit)) r ⌝ }
+    requires { ⌜ (length (now row) ≤ longestRow) × (from ≤ length (now row)) × (stop ≤ length (now row)) × (begun < modeCount) × (unclosed < openStates) × (counted ≤ 2 * from) × (length (now text) ≤ longestRow) × (counted < length (now text)) ⌝ }
+    ensures { λ r. ⌜ Strides (now (row .entry)) stop from begun unclosed counted (now (text .entry)) (now (text .exit)) r ⌝ }
 {
     let mut mode: usize = begun;
     let mut opened: usize = unclosed;
     let mut count: usize = counted;
     let mut at: usize = from;
-    while at < stop {
+    let mut limit: usize = limit_of(from, stop, text.len(), counted);
+    while at < limit {
         let word = signs::word_of(row[at]);
         if signs::is_usual(word, mode) {
             let Step::Sign {
@@ -256,13 +286,14 @@ pub fn walk(
                 return Walked::Nowhere(at);
             };
             count = put(text, count, lead, point);
+            limit = limit_behind(lead, limit, next, stop, text.len(), count);
             if ALIKE <= mode_after {
                 let Walked::On {
                     at: at_last,
                     mode: mode_last,
                     opened: opened_last,
                     count: count_last,
-                } = alike(row, next, stop, mode_after, opened_after, text, count)
+                } = alike(row, next, limit, mode_after, opened_after, text, count)
                 else {
                     return Walked::Nowhere(at);
                 };
@@ -275,6 +306,74 @@ pub fn walk(
                 opened = opened_after;
                 at = next;
             }
+        }
+    }
+    Walked::On {
+        at,
+        mode,
+        opened,
+        count,
+    }
+}
+
+// So many code points are read at once where nothing is written.
+const SCRAP: usize = 128;
+
+// A stretch that nothing is written of; it is counted from 0 on.
+fn unwritten(row: &[u8], from: usize, stop: usize, begun: usize, unclosed: usize) -> Walked
+    requires { ⌜ (length (now row) ≤ longestRow) × (from ≤ length (now row)) × (stop ≤ length (now row)) × (begun < modeCount) × (unclosed < openStates) ⌝ }
+    ensures { λ r. ⌜ Strides (now (row .entry)) stop from begun unclosed 0 [] [] r ⌝ }
+{
+    let mut scrap = [NO_POINT; SCRAP];
+    stretch(row, from, stop, begun, unclosed, &mut scrap, 0)
+}
+
+// A walk up to the place `stop`, stretch by stretch. Where there is no room any more, what is read is only counted.
+pub fn walk(
+    row: &[u8],
+    from: usize,
+    stop: usize,
+    begun: usize,
+    unclosed: usize,
+    text: &mut [u32],
+    counted: usize,
+) -> Walked
+    requires { ⌜ (length (now row) ≤ longestRow) × (from ≤ length (now row)) × (stop ≤ length (now row)) × (begun < modeCount) × (unclosed < openStates) × (counted ≤ 2 * from) × (length (now text) ≤ longestRow) ⌝ }
+    ensures { λ r. ⌜ Goes (now (row .entry)) stop from begun unclosed counted (now (text .entry)) (now (text .exit)) r ⌝ }
+{
+    let mut mode: usize = begun;
+    let mut opened: usize = unclosed;
+    let mut count: usize = counted;
+    let mut at: usize = from;
+    while at < stop {
+        if count < text.len() {
+            let Walked::On {
+                at: next,
+                mode: mode_next,
+                opened: opened_next,
+                count: count_next,
+            } = stretch(row, at, stop, mode, opened, text, count)
+            else {
+                return Walked::Nowhere(at);
+            };
+            mode = mode_next;
+            opened = opened_next;
+            count = count_next;
+            at = next;
+        } else {
+            let Walked::On {
+                at: next,
+                mode: mode_next,
+                opened: opened_next,
+                count: more,
+            } = unwritten(row, at, stop, mode, opened)
+            else {
+                return Walked::Nowhere(at);
+            };
+            mode = mode_next;
+            opened = opened_next;
+            count = count + more;
+            at = next;
         }
     }
     Walked::On {
@@ -361,7 +460,7 @@ fn part_end(at: usize, end: usize, room: usize, counted: usize) -> usize
 
 // A whole row of cells, part by part: what a walk over it finds. Where the text is full, the rest is only counted.
 pub fn walk_row(row: &[u8], text: &mut [u32]) -> Walked
-    requires { ⌜ (length (now row) ≤ longestRow) × AllCells (now row) × (1 ≤ length (now text)) ⌝ }
+    requires { ⌜ (length (now row) ≤ longestRow) × AllCells (now row) × (length (now text) ≤ longestRow) ⌝ }
     ensures { λ r. ⌜ Goes (now (row .entry)) (length (now (row .entry))) 0 free 0 0 (now (text .entry)) (now (text .exit)) r ⌝ }
 {
     let mut mode: usize = FREE;

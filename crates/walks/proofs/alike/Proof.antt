@@ -1,4 +1,5 @@
 -- `alike`: by the mode, one of the three loops; or none. Assumes nothing.
+use Rattle.walks.specs.Walks.{room-left}
 use Rattle.walks.proofs.Walking.{mid-start, mid-runs, runs-from}
 use borrow.Author.Needs.{needs}
 use Rattle.walks.proofs.alike.Statement.{statement}
@@ -20,7 +21,7 @@ returns : tie.Need-returns
 returns c =
     let d = c .before .before in
     let s = d .before .before .before .before .before in
-    runs-from (s .args .row .now) (s .args .stop) (s .args .from) (s .args .unclosed) (s .args .counted) _ (d .before .before .if1 .taken) (d .dashes .ensures)
+    (runs-from (s .args .row .now) (s .args .stop) (s .args .from) (s .args .unclosed) (s .args .counted) _ (d .before .before .if1 .taken) (d .dashes .ensures .0), d .dashes .ensures .1)
 
 capitals-requires : tie.Need-capitals-requires
 capitals-requires c κs = search needs
@@ -32,7 +33,7 @@ returns-2 : tie.Need-returns-2
 returns-2 c =
     let d = c .before .before in
     let s = d .before .before .before .before .before .before in
-    runs-from (s .args .row .now) (s .args .stop) (s .args .from) (s .args .unclosed) (s .args .counted) _ (d .before .before .if2 .taken) (d .capitals .ensures)
+    (runs-from (s .args .row .now) (s .args .stop) (s .args .from) (s .args .unclosed) (s .args .counted) _ (d .before .before .if2 .taken) (d .capitals .ensures .0), d .capitals .ensures .1)
 
 run-of-requires : tie.Need-run-of-requires
 run-of-requires c κs = search needs
@@ -49,7 +50,7 @@ returns-3 c = search needs
 returns-4 : tie.Need-returns-4
 returns-4 c =
     let s = c .before .before .before .before .before .before in
-    mid-runs (mid-start (s .args .row .now) (s .args .stop) (s .args .from) (s .args .begun) (s .args .unclosed) (s .args .counted) (s .args .text .now) (s .pre .1) (s .pre .3) (s .pre .4))
+    (mid-runs (mid-start (s .args .row .now) (s .args .stop) (s .args .from) (s .args .begun) (s .args .unclosed) (s .args .counted) (s .args .text .now) (s .pre .1) (s .pre .3) (s .pre .4)), room-left _ _ _ _ (s .pre .6))
 
 pub alike-spec : {M : Type 1} → statement M
 alike-spec =

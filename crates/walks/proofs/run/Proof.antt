@@ -1,12 +1,14 @@
--- `run`: each sign is a turn of the walk, in a mode of the run (`Mid`, `run-turn`). The measure is what is left of the row. Assumes nothing.
+-- `run`: each sign is a turn of the walk, in a mode of the run (`Mid`, `run-turn`), of one code point, for which there is room. The measure is what is left of the row. Assumes nothing.
 use mathlib.Core.List.{List}
 use mathlib.Core.Path.{_≡_, sym, _∙_}
 use Prim.Native.Nat.{ℕ, _-_, _<_}
 use native.Mathlib.Omega.{arith}
 use borrow.Author.Needs.{needs}
 use lib.ListN.{length}
+use Rattle.readings.specs.Print.{points}
 use Rattle.signs.specs.Runs.{noRun, runOf}
 use Rattle.readings.proofs.Turning.{Turn}
+use Rattle.walks.specs.Walks.{Room, room-left}
 use Rattle.walks.proofs.Walking.{Mid, mid-start, mid-put, mid-on, mid-runs, run-turn}
 use Rattle.walks.proofs.run.Statement.{statement}
 use Rattle.walks.proofs.run.Tie as tie
@@ -18,7 +20,7 @@ use Rattle.signs.proofs.run_of.Reads as run-of-reads
 
 abbrev Inv-loop : tie.InvT-loop
 Inv-loop row from stop begun unclosed text₀ counted field mode₀ at₀ count₀ text mode at count =
-    Mid row stop from begun unclosed counted text₀ text mode unclosed count at × (field ≡ runOf mode)
+    Mid row stop from begun unclosed counted text₀ text mode unclosed count at × (field ≡ runOf mode) × Room stop at count (length text₀)
 
 abbrev μ-loop : tie.MeasureT-loop
 μ-loop row from stop begun unclosed text₀ counted field mode₀ at₀ count₀ text mode at count = length row - at
@@ -46,8 +48,10 @@ abbrev mode-after : K → ℕ
 mode-after k = k .before .lead .given .0 .1 .1 .1 .0
 
 turn : (k : K) → let i = in-k k in
+    let l = k .before .lead .given .0 .0 in
+    let p = k .before .lead .given .0 .1 .0 in
     (runOf (mode-after k) ≡ runOf (i .before .loop .mode-now))
-    × Turn (row i) (i .before .loop .at) (i .before .loop .mode-now) (start i .args .unclosed) (k .before .lead .given .0 .0) (k .before .lead .given .0 .1 .0) (k .before .lead .given .0 .1 .1 .0) (mode-after k) (start i .args .unclosed)
+    × Turn (row i) (i .before .loop .at) (i .before .loop .mode-now) (start i .args .unclosed) l p (k .before .lead .given .0 .1 .1 .0) (mode-after k) (start i .args .unclosed) × (length (points l p) ≡ 1)
 turn k =
     let i = in-k k in
     run-turn (row i) (i .before .loop .at) (i .before .loop .mode-now) (start i .args .unclosed) (inside i) (i .before .loop .inv .0 .leads .mode) (i .before .loop .inv .0 .leads .opens) _
@@ -59,7 +63,7 @@ run-of-requires c κs = search needs
 loop-holds : tie.Need-loop-holds Inv-loop μ-loop
 loop-holds c =
     let s = c .before .before .before in
-    (mid-start (s .args .row .now) (s .args .stop) (s .args .from) (s .args .begun) (s .args .unclosed) (s .args .counted) (s .args .text .now) (s .pre .1) (s .pre .3) (s .pre .4), c .run-of .ensures)
+    (mid-start (s .args .row .now) (s .args .stop) (s .args .from) (s .args .begun) (s .args .unclosed) (s .args .counted) (s .args .text .now) (s .pre .1) (s .pre .3) (s .pre .4), c .run-of .ensures, s .pre .6)
 
 run-at-requires : tie.Need-run-at-requires Inv-loop μ-loop
 run-at-requires c κs =
@@ -76,10 +80,10 @@ same-length : tie.Need-same-length Inv-loop μ-loop
 same-length c = c .before .before .before .before .loop .inv .0 .wrote .0
 
 returns : tie.Need-returns Inv-loop μ-loop
-returns c = mid-runs (c .before .before .before .before .loop .inv .0)
+returns c = let i = c .before .before .before .before .loop .inv in (mid-runs (i .0), room-left _ _ _ _ (i .2))
 
 put-requires : tie.Need-put-requires Inv-loop μ-loop
-put-requires c κs = let i = in-k (c .before) in mid-put (i .before .loop .inv .0) (start i .pre .0) (start i .pre .5) (start i .pre .6)
+put-requires c κs = let i = in-k (c .before) in mid-put (i .before .loop .inv .0) (start i .pre .0) (start i .pre .5) (start i .args .stop) (i .before .loop .inv .2) (i .loop-test .taken)
 
 loop-less : tie.Need-loop-less Inv-loop μ-loop
 loop-less c = let t = turn (c .before .before .before .before) .1 in omega (arith, t .forward, t .within)
@@ -88,14 +92,19 @@ loop-again : tie.Need-loop-again Inv-loop μ-loop
 loop-again c =
     let p = c .before .before in
     let k = p .before .before in
-    let l = in-k k .before in
-    (mid-on (l .loop .inv .0) (turn k .1) (in-k k .loop-test .taken) (p .put .ensures), l .loop .inv .1 ∙ sym (turn k .0))
+    let i = in-k k in
+    let l = i .before in
+    let t = turn k in (
+      mid-on (l .loop .inv .0) (t .1) (i .loop-test .taken) (p .put .ensures),
+      l .loop .inv .1 ∙ sym (t .0),
+      omega (arith, l .loop .inv .2, t .1 .forward, p .put .ensures .0, t .2),
+    )
 
 same-length-2 : tie.Need-same-length-2 Inv-loop μ-loop
 same-length-2 c = c .before .loop .inv .0 .wrote .0
 
 returns-2 : tie.Need-returns-2 Inv-loop μ-loop
-returns-2 c = mid-runs (c .before .loop .inv .0)
+returns-2 c = let i = c .before .loop .inv in (mid-runs (i .0), room-left _ _ _ _ (i .2))
 
 pub run-spec : {M : Type 1} → statement M
 run-spec =

@@ -1,30 +1,17 @@
--- `walk`: between two signs, what was read of the part so far, its count and what is written (`Mid`). A sign is a turn, whether it is read as usual or by the
--- inner step. The measure is what is left of the part. Assumes nothing.
-use mathlib.Core.Path.{_≡_, sym, _∙_}
-use mathlib.Core.List.{List}
-use mathlib.Core.Option.{none}
-use Prim.Native.Nat.{ℕ, _-_, _<_}
+-- `walk`: between two stretches, what was read of the part so far, its count and what is written (`Mid`). A stretch is more signs, whether it is written
+-- (`mid-stride`) or only counted (`mid-uncounted`). The measure is what is left of the row. Assumes nothing.
+use mathlib.Core.Path.{refl}
+use Prim.Native.Nat.{ℕ, _+_, _-_, _<_}
 use native.Mathlib.Omega.{arith}
 use borrow.Author.Needs.{needs}
-use lib.ListN.{length, drop}
-use Rattle.readings.specs.Fields.{cellOf}
-use Rattle.readings.specs.Words.{wordOf}
-use Rattle.readings.specs.Readings.{stepAt}
-use Rattle.readings.specs.Left.{left}
-use Rattle.readings.specs.declared.Step.the-variants.{Nothing}
-use Rattle.signs.proofs.Cases.{word-there, as-usual, kind-known}
-use Rattle.readings.proofs.Turning.{Turn, turn-of, none-left}
-use Rattle.walks.proofs.Walking.{Mid, mid-start, mid-few, mid-put, mid-on, mid-more, mid-nowhere, mid-end, runs-somewhere, runs-forward}
+use lib.ListN.{length}
+use Rattle.walks.proofs.Walking.{Mid, mid-start, mid-few, mid-stride, mid-uncounted, mid-strayed, mid-nowhere, mid-end}
 use Rattle.walks.proofs.walk.Statement.{statement}
 use Rattle.walks.proofs.walk.Tie as tie
 use Rattle.walks.proofs.walk.Reads as reads
 use Rattle.walks.proofs.walk.Lts as lts
-use Rattle.walks.proofs.alike.Reads as alike-reads
-use Rattle.walks.proofs.put.Reads as put-reads
-use Rattle.signs.proofs.is_usual.Reads as is-usual-reads
-use Rattle.signs.proofs.sign_at.Reads as sign-at-reads
-use Rattle.signs.proofs.usual.Reads as usual-reads
-use Rattle.signs.proofs.word_of.Reads as word-of-reads
+use Rattle.walks.proofs.stretch.Reads as stretch-reads
+use Rattle.walks.proofs.unwritten.Reads as unwritten-reads
 
 abbrev Inv-loop : tie.InvT-loop
 Inv-loop row from stop begun unclosed text₀ counted mode₀ opened₀ count₀ at₀ text mode opened count at =
@@ -33,256 +20,136 @@ Inv-loop row from stop begun unclosed text₀ counted mode₀ opened₀ count₀
 abbrev μ-loop : tie.MeasureT-loop
 μ-loop row from stop begun unclosed text₀ counted mode₀ opened₀ count₀ at₀ text mode opened count at = length row - at
 
--- THE PLACES: a turn begins; the word of the cell is at hand; it is read as usual, or by the inner step, and the sign is known
+-- THE PLACES: a stretch begins; it is written, or only counted, and it came to a place
 abbrev L : Type 0
 L = tie.At-loop Inv-loop μ-loop
 
 abbrev start : L → tie.Start Inv-loop μ-loop
 start l = l .before .before .before
 
-abbrev row : L → List ℕ
-row l = start l .args .row .now
+abbrev S : Type 0
+S = tie.After-stretch Inv-loop μ-loop
 
-abbrev I : Type 0
-I = tie.In-loop Inv-loop μ-loop
+abbrev at-s : S → L
+at-s s = s .before .before .before .before
 
-inside : (i : I) → i .before .loop .at < length (row (i .before))
-inside i = omega (arith, i .loop-test .taken, start (i .before) .pre .2)
+abbrev U : Type 0
+U = tie.After-unwritten Inv-loop μ-loop
 
-abbrev W : Type 0
-W = tie.After-is-usual Inv-loop μ-loop
-
-abbrev in-w : W → I
-in-w w = w .before .before .before
-
-abbrev at-w : W → L
-at-w w = in-w w .before
-
-word-is : (w : W) → w .before .word-of .result ≡ wordOf (cellOf (row (at-w w)) (at-w w .loop .at))
-word-is w = w .before .word-of .ensures ∙ word-there (row (at-w w)) (at-w w .loop .at) (inside (in-w w))
-
-abbrev K : Type 0
-K = tie.After-known-told Inv-loop μ-loop
-
-abbrev of-k : K → W
-of-k c = c .before .before .before .before .before
-
-abbrev lead : K → ℕ
-lead c = c .before .lead .given .0 .0
-
-abbrev point : K → ℕ
-point c = c .before .lead .given .0 .1 .0
-
-abbrev next : K → ℕ
-next c = c .before .lead .given .0 .1 .1 .0
-
-abbrev mode-after : K → ℕ
-mode-after c = c .before .lead .given .0 .1 .1 .1 .0
-
-abbrev opened-after : K → ℕ
-opened-after c = c .before .lead .given .0 .1 .1 .1 .1 .0
-
-abbrev J : Type 0
-J = tie.After-known-told2 Inv-loop μ-loop
-
-abbrev of-j : J → W
-of-j c = c .before .before .before .before .before
-
-abbrev lead2 : J → ℕ
-lead2 c = c .before .lead2 .given .0 .0
-
-abbrev point2 : J → ℕ
-point2 c = c .before .lead2 .given .0 .1 .0
-
-abbrev next2 : J → ℕ
-next2 c = c .before .lead2 .given .0 .1 .1 .0
-
-abbrev mode-after2 : J → ℕ
-mode-after2 c = c .before .lead2 .given .0 .1 .1 .1 .0
-
-abbrev opened-after2 : J → ℕ
-opened-after2 c = c .before .lead2 .given .0 .1 .1 .1 .1 .0
-
--- what the step at the place is: as usual
-as-read : (u : tie.After-usual Inv-loop μ-loop) → let l = at-w (u .before .before) in
-    u .usual .result ≡ stepAt (row l) (l .loop .at) (l .loop .mode) (l .loop .opened)
-as-read u =
-    let w = u .before .before in
-    let l = at-w w in
-    u .usual .ensures
-    ∙ as-usual (row l) (l .loop .at) (l .loop .mode) (l .loop .opened) (w .before .word-of .result) (word-is w) (sym (w .is-usual .ensures) ∙ u .before .if1 .taken)
-
-turn : (c : K) → let l = at-w (of-k c) in
-    Turn (row l) (l .loop .at) (l .loop .mode) (l .loop .opened) (lead c) (point c) (next c) (mode-after c) (opened-after c)
-turn c =
-    let w = of-k c in
-    let l = at-w w in
-    turn-of (row l) (l .loop .at) (l .loop .mode) (l .loop .opened) (inside (in-w w)) (l .loop .inv .leads .mode) (l .loop .inv .leads .opens)
-    (lead c) (point c) (next c) (mode-after c) (opened-after c) (sym (as-read (c .before .before .before)) ∙ c .before .lead .given .1)
-
-turn2 : (c : J) → let l = at-w (of-j c) in
-    Turn (row l) (l .loop .at) (l .loop .mode) (l .loop .opened) (lead2 c) (point2 c) (next2 c) (mode-after2 c) (opened-after2 c)
-turn2 c =
-    let w = of-j c in
-    let l = at-w w in
-    turn-of (row l) (l .loop .at) (l .loop .mode) (l .loop .opened) (inside (in-w w)) (l .loop .inv .leads .mode) (l .loop .inv .leads .opens)
-    (lead2 c) (point2 c) (next2 c) (mode-after2 c) (opened-after2 c) (sym (c .before .before .before .sign-at .ensures) ∙ c .before .lead2 .given .1)
-
--- no sign starts at the place
-stuck : (i : I) → let l = i .before in stepAt (row l) (l .loop .at) (l .loop .mode) (l .loop .opened) ≡ Nothing → left (l .loop .mode) (l .loop .opened) (drop (l .loop .at) (row l)) ≡ none
-stuck i e =
-    let l = i .before in
-    none-left (row l) (l .loop .at) (l .loop .mode) (l .loop .opened) (inside i) (l .loop .inv .leads .mode) (l .loop .inv .leads .opens) e
+abbrev at-u : U → L
+at-u u = u .before .before .before
 
 loop-holds : tie.Need-loop-holds Inv-loop μ-loop
 loop-holds c =
     let s = c .before .before in
     mid-start (s .args .row .now) (s .args .stop) (s .args .from) (s .args .begun) (s .args .unclosed) (s .args .counted) (s .args .text .now) (s .pre .1) (s .pre .3) (s .pre .4)
 
-shared-slice-read-word-of : tie.Need-shared-slice-read-word-of Inv-loop μ-loop
-shared-slice-read-word-of c = inside (c .before)
+stretch-requires : tie.Need-stretch-requires Inv-loop μ-loop
+stretch-requires c κs =
+    let t = c .before in
+    let l = t .before .before in
+    let s = start l in
+    let m = l .loop .inv in
+    (s .pre .0, m .leads .within, s .pre .2, m .leads .mode, m .leads .opens, mid-few m (s .pre .5), omega (arith, m .wrote .0, s .pre .6), t .if1 .taken)
 
-word-of-requires : tie.Need-word-of-requires Inv-loop μ-loop
-word-of-requires c κs = search needs
-
-is-usual-requires : tie.Need-is-usual-requires Inv-loop μ-loop
-is-usual-requires c κs = search needs
-
-usual-requires : tie.Need-usual-requires Inv-loop μ-loop
-usual-requires c κs =
-    let w = c .before in
-    let l = at-w w in (
-      omega (arith, inside (in-w w), start l .pre .0),
-      l .loop .inv .leads .opens,
-      kind-known (row l) (l .loop .at) (l .loop .mode) (w .before .word-of .result) (l .loop .inv .leads .mode) (word-is w) (sym (w .is-usual .ensures) ∙ c .if1 .taken),
-    )
-
-enum-known-lead : tie.Need-enum-known-lead Inv-loop μ-loop
-enum-known-lead c = search needs
+enum-known-next : tie.Need-enum-known-next Inv-loop μ-loop
+enum-known-next c = search needs
 
 enum-told : tie.Need-enum-told Inv-loop μ-loop
 enum-told c = search needs
 
+-- no text has the row
+abbrev s-lost : tie.After-enum-told Inv-loop μ-loop → S
+s-lost c = c .before .before .before .before
+
 same-length : tie.Need-same-length Inv-loop μ-loop
-same-length c = at-w (c .before .before .before .before) .loop .inv .wrote .0
+same-length c =
+    let s = s-lost c in
+    let m = at-s s .loop .inv in
+    omega (arith, mid-strayed m (s .stretch .result) (s .stretch .ensures) (c .enum-told .given .1) .1, m .wrote .0)
 
 returns : tie.Need-returns Inv-loop μ-loop
 returns c =
-    let u = c .before .before in
-    let w = u .before .before in
-    mid-nowhere (at-w w .loop .inv) (stuck (in-w w) (sym (as-read u) ∙ c .enum-told .given .1))
+    let s = s-lost c in
+    let m = at-s s .loop .inv in
+    let lost = mid-strayed m (s .stretch .result) (s .stretch .ensures) (c .enum-told .given .1) in
+    mid-nowhere m (lost .0) (lost .1)
 
-put-requires : tie.Need-put-requires Inv-loop μ-loop
-put-requires c κs = let l = at-w (of-k (c .before)) in mid-put (l .loop .inv) (start l .pre .0) (start l .pre .5) (start l .pre .6)
+-- written
+abbrev K : Type 0
+K = tie.After-known-told Inv-loop μ-loop
+
+abbrev s-of : K → S
+s-of k = k .before .before .before .before .before
 
 loop-less : tie.Need-loop-less Inv-loop μ-loop
-loop-less c = let t = turn (c .before .before .before .before) in omega (arith, t .forward, t .within)
+loop-less c =
+    let s = s-of c in
+    let l = at-s s in
+    let m = mid-stride (l .loop .inv) (s .stretch .result) (s .stretch .ensures) (c .before .next .given .1) in
+    omega (arith, m .0 .leads .within, m .1 (s .before .before .before .loop-test .taken))
 
 loop-again : tie.Need-loop-again Inv-loop μ-loop
 loop-again c =
-    let p = c .before .before in
-    let k = p .before .before in
-    mid-on (at-w (of-k k) .loop .inv) (turn k) (in-w (of-k k) .loop-test .taken) (p .put .ensures)
+    let s = s-of c in
+    mid-stride (at-s s .loop .inv) (s .stretch .result) (s .stretch .ensures) (c .before .next .given .1) .0
 
-sign-at-requires : tie.Need-sign-at-requires Inv-loop μ-loop
-sign-at-requires c κs =
-    let w = c .before in
-    let l = at-w w in
-    (start l .pre .0, inside (in-w w), l .loop .inv .leads .opens, word-is w, sym (w .is-usual .ensures) ∙ c .if1 .left)
+unwritten-requires : tie.Need-unwritten-requires Inv-loop μ-loop
+unwritten-requires c κs =
+    let l = c .before .before in
+    let s = start l in
+    let m = l .loop .inv in
+    (s .pre .0, m .leads .within, s .pre .2, m .leads .mode, m .leads .opens)
 
-enum-known-lead-2 : tie.Need-enum-known-lead-2 Inv-loop μ-loop
-enum-known-lead-2 c = search needs
+enum-known-next-2 : tie.Need-enum-known-next-2 Inv-loop μ-loop
+enum-known-next-2 c = search needs
 
 enum-told-2 : tie.Need-enum-told-2 Inv-loop μ-loop
 enum-told-2 c = search needs
 
 same-length-2 : tie.Need-same-length-2 Inv-loop μ-loop
-same-length-2 c = at-w (c .before .before .before .before) .loop .inv .wrote .0
+same-length-2 c = at-u (c .before .before) .loop .inv .wrote .0
 
 returns-2 : tie.Need-returns-2 Inv-loop μ-loop
 returns-2 c =
-    let a = c .before .before in
-    let w = a .before .before in
-    mid-nowhere (at-w w .loop .inv) (stuck (in-w w) (sym (a .sign-at .ensures) ∙ c .enum-told2 .given .1))
+    let u = c .before .before in
+    let m = at-u u .loop .inv in
+    mid-nowhere m (mid-strayed m (u .unwritten .result) (u .unwritten .ensures) (c .enum-told2 .given .1) .0) refl
 
-put-requires-2 : tie.Need-put-requires-2 Inv-loop μ-loop
-put-requires-2 c κs = let l = at-w (of-j (c .before)) in mid-put (l .loop .inv) (start l .pre .0) (start l .pre .5) (start l .pre .6)
+-- only counted
+abbrev K2 : Type 0
+K2 = tie.After-known-told2 Inv-loop μ-loop
 
--- the sign is put, and what follows alike is read
-abbrev P : Type 0
-P = tie.After-put2 Inv-loop μ-loop
+abbrev u-of : K2 → U
+u-of k = k .before .before .before
 
-abbrev j-of : P → J
-j-of p = p .before .before
+on : (k : K2) → let l = at-u (u-of k) in
+    let s = start l in
+    Mid (s .args .row .now) (s .args .stop) (s .args .from) (s .args .begun) (s .args .unclosed) (s .args .counted) (s .args .text .now) (l .loop .text)
+    (k .before .next2 .given .0 .1 .0) (k .before .next2 .given .0 .1 .1 .0) (l .loop .count + k .before .next2 .given .0 .1 .1 .1 .0) (k .before .next2 .given .0 .0)
+    × (l .loop .at < s .args .stop → l .loop .at < k .before .next2 .given .0 .0)
+on k =
+    let u = u-of k in
+    let l = at-u u in
+    let m = l .loop .inv in
+    mid-uncounted m (omega (arith, u .before .if1 .left, m .wrote .0)) (u .unwritten .result) (u .unwritten .ensures) (k .before .next2 .given .1)
 
-alike-requires : tie.Need-alike-requires Inv-loop μ-loop
-alike-requires c κs =
-    let p = c .before .before .before .before in
-    let k = j-of p in
-    let l = at-w (of-j k) in
-    let m = mid-on (l .loop .inv) (turn2 k) (in-w (of-j k) .loop-test .taken) (p .put2 .ensures) in
-    (start l .pre .0, m .leads .within, start l .pre .2, m .leads .mode, m .leads .opens, mid-few m (start l .pre .5), omega (arith, m .wrote .0, start l .pre .6))
-
-enum-known-at-last : tie.Need-enum-known-at-last Inv-loop μ-loop
-enum-known-at-last c = search needs
-
-enum-told-3 : tie.Need-enum-told-3 Inv-loop μ-loop
-enum-told-3 c = search needs
-
--- they always come to a place
-somewhere : (c : tie.After-enum-told3 Inv-loop μ-loop) → ⊥
-somewhere c =
-    let a = c .before .before .before .before in
-    let k = j-of (a .before .before .before .before .before) in
-    let l = at-w (of-j k) in
-    runs-somewhere (row l) (start l .args .stop) (next2 k) (mode-after2 k) (opened-after2 k) _ _ (a .alike .ensures) (c .enum-told3 .given .1)
-
-same-length-3 : tie.Need-same-length-3 Inv-loop μ-loop
-same-length-3 c = absurd (somewhere c)
-
-returns-3 : tie.Need-returns-3 Inv-loop μ-loop
-returns-3 c = absurd (somewhere c)
-
-abbrev A : Type 0
-A = tie.After-known-told3 Inv-loop μ-loop
-
-abbrev a-of : A → tie.After-alike Inv-loop μ-loop
-a-of c = c .before .before .before .before .before
-
-abbrev p-of : A → P
-p-of c = a-of c .before .before .before .before .before
+add-count : tie.Need-add-count Inv-loop μ-loop
+add-count c =
+    let s = start (at-u (u-of c)) in
+    omega (arith, mid-few (on c .0) (s .pre .5), on c .0 .leads .within, s .pre .0)
 
 loop-less-2 : tie.Need-loop-less-2 Inv-loop μ-loop
-loop-less-2 c =
-    let p = p-of c in
-    let k = j-of p in
-    let t = turn2 k in
-    let m = mid-on (at-w (of-j k) .loop .inv) t (in-w (of-j k) .loop-test .taken) (p .put2 .ensures) in
-    let n = mid-more m (a-of c .alike .result) (a-of c .alike .ensures) (c .before .at-last .given .1) in
-    let l = at-w (of-j k) in
-    let f = runs-forward (row l) (start l .args .stop) (next2 k) (mode-after2 k) (opened-after2 k) (p .put2 .result) (a-of c .alike .result) (a-of c .alike .ensures) (c .before .at-last .given .1) in
-    omega (arith, t .forward, n .leads .within, f)
+loop-less-2 c = omega (arith, on c .0 .leads .within, on c .1 (u-of c .before .before .loop-test .taken))
 
 loop-again-2 : tie.Need-loop-again-2 Inv-loop μ-loop
-loop-again-2 c =
-    let p = p-of c in
-    let k = j-of p in
-    mid-more (mid-on (at-w (of-j k) .loop .inv) (turn2 k) (in-w (of-j k) .loop-test .taken) (p .put2 .ensures)) (a-of c .alike .result) (a-of c .alike .ensures) (c .before .at-last .given .1)
+loop-again-2 c = on c .0
 
-loop-less-3 : tie.Need-loop-less-3 Inv-loop μ-loop
-loop-less-3 c = let t = turn2 (j-of (c .before .before .before)) in omega (arith, t .forward, t .within)
+same-length-3 : tie.Need-same-length-3 Inv-loop μ-loop
+same-length-3 c = c .before .loop .inv .wrote .0
 
-loop-again-3 : tie.Need-loop-again-3 Inv-loop μ-loop
-loop-again-3 c =
-    let p = c .before .before .before in
-    let k = j-of p in
-    mid-on (at-w (of-j k) .loop .inv) (turn2 k) (in-w (of-j k) .loop-test .taken) (p .put2 .ensures)
-
-same-length-4 : tie.Need-same-length-4 Inv-loop μ-loop
-same-length-4 c = c .before .loop .inv .wrote .0
-
-returns-4 : tie.Need-returns-4 Inv-loop μ-loop
-returns-4 c = mid-end (c .before .loop .inv) (c .loop-test .left)
+returns-3 : tie.Need-returns-3 Inv-loop μ-loop
+returns-3 c = mid-end (c .before .loop .inv) (c .loop-test .left)
 
 pub walk-spec : {M : Type 1} → statement M
 walk-spec =
@@ -291,31 +158,20 @@ walk-spec =
     Inv-loop
     μ-loop
     loop-holds
-    shared-slice-read-word-of
-    word-of-requires
-    is-usual-requires
-    usual-requires
-    enum-known-lead
+    stretch-requires
+    enum-known-next
     enum-told
     same-length
     returns
-    put-requires
     loop-less
     loop-again
-    sign-at-requires
-    enum-known-lead-2
+    unwritten-requires
+    enum-known-next-2
     enum-told-2
     same-length-2
     returns-2
-    put-requires-2
-    alike-requires
-    enum-known-at-last
-    enum-told-3
-    same-length-3
-    returns-3
+    add-count
     loop-less-2
     loop-again-2
-    loop-less-3
-    loop-again-3
-    same-length-4
-    returns-4)
+    same-length-3
+    returns-3)
