@@ -207,7 +207,7 @@ module _ {row : Row} {stop from m₀ o₀ n₀ m o n at : ℕ} {t₀ t : List �
   mid-stride w (strides-on ss j m' v d leads further count wrote) {k} e =
       let f : j ≡ k = cc in
       (mid-more w (runs-on ss j m' v d leads count wrote) e, λ h. omega (arith, further h, f))
-  mid-stride w (strides-nowhere j none-left same) e = let z : _≡_ {A = ℕ} 0 1 = cc in absurd (omega arith)
+  mid-stride w (strides-nowhere j within cells none-left same) e = let z : _≡_ {A = ℕ} 0 1 = cc in absurd (omega arith)
 
   pub mid-uncounted : length t ≤ n → (w : Walked) → Strides row stop at m o 0 [] [] w → {k n' u c : ℕ} → w ≡ On k n' u c
       → Mid row stop from m₀ o₀ n₀ t₀ t n' u (n + c) k × (at < stop → at < k)
@@ -216,22 +216,20 @@ module _ {row : Row} {stop from m₀ o₀ n₀ m o n at : ℕ} {t₀ t : List �
       let g : d ≡ c = cc in
       let q : w ≡ On j m' v d = refl in
       (mid-more (On j m' v (n + d)) (runs-on ss j m' v (n + d) leads (omega (arith, count)) (wrote-full t n (printOf ss) full)) cc, λ h. omega (arith, further h, f))
-  mid-uncounted full w (strides-nowhere j none-left same) e = let z : _≡_ {A = ℕ} 0 1 = cc in absurd (omega arith)
+  mid-uncounted full w (strides-nowhere j within cells none-left same) e = let z : _≡_ {A = ℕ} 0 1 = cc in absurd (omega arith)
 
-  pub mid-strayed : {n' : ℕ} {t' t'' : List ℕ} (w : Walked) → Strides row stop at m o n' t' t'' w → {k : ℕ} → w ≡ Nowhere k
-      → (left m o (drop at row) ≡ none) × (length t'' ≡ length t')
-  mid-strayed w (strides-on ss j m' v d leads further count wrote) e = let z : _≡_ {A = ℕ} 0 1 = cc in absurd (omega arith)
-  mid-strayed w (strides-nowhere j none-left same) e = (none-left, same)
+  pub mid-strayed : {n' : ℕ} {u u' t' : List ℕ} (w : Walked) → Strides row stop at m o n' u u' w → {k : ℕ} → w ≡ Nowhere k
+      → (length u' ≡ length u → length t' ≡ length t) → Goes row stop from m₀ o₀ n₀ t₀ t' w
+  mid-strayed w (strides-on ss j m' v d leads further count wrote) e long = let z : _≡_ {A = ℕ} 0 1 = cc in absurd (omega arith)
+  mid-strayed w (strides-nowhere j within cells none-left same) e long =
+      goes-nowhere j within (cells-join-on (mid .leads) cells) (leads-nowhere (mid .leads) none-left) (long same ∙ mid .wrote .0)
 
   -- the ends of a stretch
   pub mid-strides : (from < stop → from < at) → Strides row stop from m₀ o₀ n₀ t₀ t (On at m o n)
   mid-strides further = strides-on (mid .signs) at m o n (mid .leads) further (mid .count) (mid .wrote)
 
-  pub mid-astray : left m o (drop at row) ≡ none → {k : ℕ} → Strides row stop from m₀ o₀ n₀ t₀ t (Nowhere k)
-  mid-astray e {k} = strides-nowhere k (leads-nowhere (mid .leads) e) (mid .wrote .0)
-
-  pub mid-nowhere : {t' : List ℕ} → left m o (drop at row) ≡ none → length t' ≡ length t → Goes row stop from m₀ o₀ n₀ t₀ t' (Nowhere at)
-  mid-nowhere e same = goes-nowhere at (mid .leads .within) (mid .leads .cells) (leads-nowhere (mid .leads) e) (same ∙ mid .wrote .0)
+  pub mid-astray : left m o (drop at row) ≡ none → Strides row stop from m₀ o₀ n₀ t₀ t (Nowhere at)
+  mid-astray e = strides-nowhere at (mid .leads .within) (mid .leads .cells) (leads-nowhere (mid .leads) e) (mid .wrote .0)
 
   pub mid-end : stop ≤ at → Goes row stop from m₀ o₀ n₀ t₀ t (On at m o n)
   mid-end h = goes-on (mid .signs) at m o n (mid .leads) h (mid .count) (mid .wrote)
@@ -256,10 +254,14 @@ runs-somewhere row stop at m o n w (runs-on ss k m' u c leads count wrote) e = l
 pub runs-forward : (row : Row) (stop at m o n : ℕ) {t t' : List ℕ} (w : Walked) → Runs row stop at m o n t t' w → {k n' u c : ℕ} → w ≡ On k n' u c → at ≤ k
 runs-forward row stop at m o n w (runs-on ss j m' v d leads count wrote) {k} e = let f : j ≡ k = cc in omega (arith, leads .next-is, f)
 
--- of a stretch: the same of a text that has no room
+-- of a stretch: the same of a text that has no room; a text stays as long as it was
 pub strides-unwritten : {row : Row} {stop at m o n : ℕ} {t t' : List ℕ} (w : Walked) → Strides row stop at m o n t t' w → Strides row stop at m o n [] [] w
 strides-unwritten {n = n} w (strides-on ss k m' u c leads further count wrote) = strides-on ss k m' u c leads further count (wrote-full [] n (printOf ss) zero-le)
-strides-unwritten w (strides-nowhere k none-left same) = strides-nowhere k none-left refl
+strides-unwritten w (strides-nowhere k within cells none-left same) = strides-nowhere k within cells none-left refl
+
+pub strides-same : {row : Row} {stop at m o n : ℕ} {t t' : List ℕ} (w : Walked) → Strides row stop at m o n t t' w → length t' ≡ length t
+strides-same w (strides-on ss k m' u c leads further count wrote) = wrote .0
+strides-same w (strides-nowhere k within cells none-left same) = same
 
 -- A QUICK READING that gives a sign is a turn, and that of one code point; in a run the mode that it leaves is in the same run
 pub quick-turn : (row : Row) (at m m' o : ℕ) → at < length row → m < modeCount → o < openStates → (s : Step) → Quick row at m m' o s

@@ -73,7 +73,7 @@ pub data RoomLeft (stop room : ℕ) : Walked → Type 0 where
 pub data Strides (row : Row) (stop at m o n : ℕ) (t t' : List ℕ) : Walked → Type 0 where
   strides-on : (ss : List Sign) (k m' u c : ℕ) → Leads row stop at m o k m' u ss → (at < stop → at < k) → c ≡ n + length (printOf ss) → Wrote t t' n (printOf ss)
       → Strides row stop at m o n t t' (On k m' u c)
-  strides-nowhere : (k : ℕ) → left m o (drop at row) ≡ none → length t' ≡ length t → Strides row stop at m o n t t' (Nowhere k)
+  strides-nowhere : (k : ℕ) → k ≤ length row → CellsFrom row at k → left m o (drop at row) ≡ none → length t' ≡ length t → Strides row stop at m o n t t' (Nowhere k)
 
 -- WHAT A WALK FINDS over a part of the row, behind n code points, and what it writes
 pub data Goes (row : Row) (stop at m o n : ℕ) (t t' : List ℕ) : Walked → Type 0 where

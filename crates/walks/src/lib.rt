@@ -347,28 +347,30 @@ pub fn walk(
     let mut at: usize = from;
     while at < stop {
         if count < text.len() {
+            let found = stretch(row, at, stop, mode, opened, text, count);
             let Walked::On {
                 at: next,
                 mode: mode_next,
                 opened: opened_next,
                 count: count_next,
-            } = stretch(row, at, stop, mode, opened, text, count)
+            } = found
             else {
-                return Walked::Nowhere(at);
+                return found;
             };
             mode = mode_next;
             opened = opened_next;
             count = count_next;
             at = next;
         } else {
+            let found = unwritten(row, at, stop, mode, opened);
             let Walked::On {
                 at: next,
                 mode: mode_next,
                 opened: opened_next,
                 count: more,
-            } = unwritten(row, at, stop, mode, opened)
+            } = found
             else {
-                return Walked::Nowhere(at);
+                return found;
             };
             mode = mode_next;
             opened = opened_next;

@@ -5,7 +5,7 @@ use Prim.Native.Nat.{ℕ, _+_, _-_, _<_}
 use native.Mathlib.Omega.{arith}
 use borrow.Author.Needs.{needs}
 use lib.ListN.{length}
-use Rattle.walks.proofs.Walking.{Mid, mid-start, mid-few, mid-stride, mid-uncounted, mid-strayed, mid-nowhere, mid-end}
+use Rattle.walks.proofs.Walking.{Mid, mid-start, mid-few, mid-stride, mid-uncounted, mid-strayed, mid-end, strides-same}
 use Rattle.walks.proofs.walk.Statement.{statement}
 use Rattle.walks.proofs.walk.Tie as tie
 use Rattle.walks.proofs.walk.Reads as reads
@@ -52,8 +52,8 @@ stretch-requires c κs =
     let m = l .loop .inv in
     (s .pre .0, m .leads .within, s .pre .2, m .leads .mode, m .leads .opens, mid-few m (s .pre .5), omega (arith, m .wrote .0, s .pre .6), t .if1 .taken)
 
-enum-known-next : tie.Need-enum-known-next Inv-loop μ-loop
-enum-known-next c = search needs
+enum-known-found : tie.Need-enum-known-found Inv-loop μ-loop
+enum-known-found c = search needs
 
 enum-told : tie.Need-enum-told Inv-loop μ-loop
 enum-told c = search needs
@@ -63,17 +63,12 @@ abbrev s-lost : tie.After-enum-told Inv-loop μ-loop → S
 s-lost c = c .before .before .before .before
 
 same-length : tie.Need-same-length Inv-loop μ-loop
-same-length c =
-    let s = s-lost c in
-    let m = at-s s .loop .inv in
-    omega (arith, mid-strayed m (s .stretch .result) (s .stretch .ensures) (c .enum-told .given .1) .1, m .wrote .0)
+same-length c = let s = s-lost c in omega (arith, strides-same (s .stretch .result) (s .stretch .ensures), at-s s .loop .inv .wrote .0)
 
 returns : tie.Need-returns Inv-loop μ-loop
 returns c =
     let s = s-lost c in
-    let m = at-s s .loop .inv in
-    let lost = mid-strayed m (s .stretch .result) (s .stretch .ensures) (c .enum-told .given .1) in
-    mid-nowhere m (lost .0) (lost .1)
+    mid-strayed (at-s s .loop .inv) (s .stretch .result) (s .stretch .ensures) (c .enum-told .given .1) (λ e. e)
 
 -- written
 abbrev K : Type 0
@@ -86,13 +81,13 @@ loop-less : tie.Need-loop-less Inv-loop μ-loop
 loop-less c =
     let s = s-of c in
     let l = at-s s in
-    let m = mid-stride (l .loop .inv) (s .stretch .result) (s .stretch .ensures) (c .before .next .given .1) in
+    let m = mid-stride (l .loop .inv) (s .stretch .result) (s .stretch .ensures) (c .before .found .given .1) in
     omega (arith, m .0 .leads .within, m .1 (s .before .before .before .loop-test .taken))
 
 loop-again : tie.Need-loop-again Inv-loop μ-loop
 loop-again c =
     let s = s-of c in
-    mid-stride (at-s s .loop .inv) (s .stretch .result) (s .stretch .ensures) (c .before .next .given .1) .0
+    mid-stride (at-s s .loop .inv) (s .stretch .result) (s .stretch .ensures) (c .before .found .given .1) .0
 
 unwritten-requires : tie.Need-unwritten-requires Inv-loop μ-loop
 unwritten-requires c κs =
@@ -101,8 +96,8 @@ unwritten-requires c κs =
     let m = l .loop .inv in
     (s .pre .0, m .leads .within, s .pre .2, m .leads .mode, m .leads .opens)
 
-enum-known-next-2 : tie.Need-enum-known-next-2 Inv-loop μ-loop
-enum-known-next-2 c = search needs
+enum-known-found-2 : tie.Need-enum-known-found-2 Inv-loop μ-loop
+enum-known-found-2 c = search needs
 
 enum-told-2 : tie.Need-enum-told-2 Inv-loop μ-loop
 enum-told-2 c = search needs
@@ -113,8 +108,7 @@ same-length-2 c = at-u (c .before .before) .loop .inv .wrote .0
 returns-2 : tie.Need-returns-2 Inv-loop μ-loop
 returns-2 c =
     let u = c .before .before in
-    let m = at-u u .loop .inv in
-    mid-nowhere m (mid-strayed m (u .unwritten .result) (u .unwritten .ensures) (c .enum-told2 .given .1) .0) refl
+    mid-strayed (at-u u .loop .inv) (u .unwritten .result) (u .unwritten .ensures) (c .enum-told2 .given .1) (λ e. refl)
 
 -- only counted
 abbrev K2 : Type 0
@@ -126,13 +120,13 @@ u-of k = k .before .before .before
 on : (k : K2) → let l = at-u (u-of k) in
     let s = start l in
     Mid (s .args .row .now) (s .args .stop) (s .args .from) (s .args .begun) (s .args .unclosed) (s .args .counted) (s .args .text .now) (l .loop .text)
-    (k .before .next2 .given .0 .1 .0) (k .before .next2 .given .0 .1 .1 .0) (l .loop .count + k .before .next2 .given .0 .1 .1 .1 .0) (k .before .next2 .given .0 .0)
-    × (l .loop .at < s .args .stop → l .loop .at < k .before .next2 .given .0 .0)
+    (k .before .found2 .given .0 .1 .0) (k .before .found2 .given .0 .1 .1 .0) (l .loop .count + k .before .found2 .given .0 .1 .1 .1 .0) (k .before .found2 .given .0 .0)
+    × (l .loop .at < s .args .stop → l .loop .at < k .before .found2 .given .0 .0)
 on k =
     let u = u-of k in
     let l = at-u u in
     let m = l .loop .inv in
-    mid-uncounted m (omega (arith, u .before .if1 .left, m .wrote .0)) (u .unwritten .result) (u .unwritten .ensures) (k .before .next2 .given .1)
+    mid-uncounted m (omega (arith, u .before .if1 .left, m .wrote .0)) (u .unwritten .result) (u .unwritten .ensures) (k .before .found2 .given .1)
 
 add-count : tie.Need-add-count Inv-loop μ-loop
 add-count c =
@@ -159,14 +153,14 @@ walk-spec =
     μ-loop
     loop-holds
     stretch-requires
-    enum-known-next
+    enum-known-found
     enum-told
     same-length
     returns
     loop-less
     loop-again
     unwritten-requires
-    enum-known-next-2
+    enum-known-found-2
     enum-told-2
     same-length-2
     returns-2
