@@ -325,6 +325,27 @@ fn lengths_between_the_limits() {
     say(&format!("{rows} rows of lengths between the limits, 0 failed"));
 }
 
+/// Forms in which a cell gives two code points: the cells behind a lower 1, and their print.
+const TWO_IN_A_CELL: [(&[u8], &str); 3] = [(&[21], ".º"), (&[1, 0], ".ª "), (&[3, 0], "⁄2 ")];
+
+// As many cells as the longest text has code points, but half of its code points, up to the inside of such a form; and behind it letters up to where the text is
+// full, one short of it and some past it. A reader that looks how much room is left where the cells are as many looks there, and then a cell takes the room of two.
+#[test]
+fn text_full_behind_two_code_points_in_a_cell() {
+    let mut wrong = Vec::new();
+    for (cells, print) in TWO_IN_A_CELL {
+        for length in LONGEST_TEXT - 1..=LONGEST_TEXT + 3 {
+            let slashes = LONGEST_TEXT / 2 - 1;
+            let head = format!("{}1{print}", "/".repeat(slashes));
+            let letters = length - head.chars().count();
+            let text: Vec<u32> = head.chars().chain("k".repeat(letters).chars()).map(u32::from).collect();
+            let row = [&[32, 2].repeat(slashes), &[60, 2][..], cells, &vec![5; letters]].concat();
+            wrong.extend(hold(&format!("{length} code points with {print}"), &row, &due(&text)));
+        }
+    }
+    assert!(wrong.is_empty(), "\n{}\n", wrong.join("\n"));
+}
+
 // A step for each sign, of a row as long as they come.
 #[test]
 fn steps_through_a_long_row() {
