@@ -1,7 +1,8 @@
 // What is read at a place of a row, as the code has it: the answer that a step gives; the modes, the classes of cells and the deeds, by name; the word of a
 // cell by its fields (`cells`); the deed of each mode and class (`table`); the marks of the pairs. What is done with these is crates/signs.
 // A new sign is a line of crates/rules/specs/Castilian.antt, printed again; a new mode, deed or class is added in tools/readings.txt, and as a constant here
-// and in specs/; a new pair kind is also an arm of `opener_of` and of `closer_of`.
+// and in specs/, and a mode besides where it is said what a capital leaves in each (`capitalModes` of specs/Readings, AFTER_CAPITAL of crates/signs); a new pair
+// kind is also an arm of `opener_of` and of `closer_of`, and one whose marks have two cells, as ‘ and ’ have, an arm of `prefixed` of crates/signs.
 ghost use mathlib.Core.Path.{_≡_};
 ghost use Rattle.readings.specs.Fields.{classIn, pointIn, capitalIn, figureIn, lowerIn, kindIn, thenIn, deedOf};
 ghost use Rattle.readings.specs.Readings.{openerOf, closerOf};

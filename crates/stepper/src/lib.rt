@@ -52,8 +52,8 @@ pub fn step(row: &[u8], place: usize) -> Shown
     if LONGEST_ROW < row.len() {
         return Shown::Refused(Answer::TooLong(reported_length(row.len())));
     }
-    // what is read before and behind the sign is only counted
-    let mut scrap = [NO_POINT; 1];
+    // what is read before and behind the sign is only counted: there is no room for it
+    let mut no_room = [NO_POINT; 0];
     let Walked::On {
         at,
         mode,
@@ -65,7 +65,7 @@ pub fn step(row: &[u8], place: usize) -> Shown
         stop_before(place, row.len()),
         FREE,
         0,
-        &mut scrap,
+        &mut no_room,
         0,
     )
     else {
@@ -100,7 +100,7 @@ pub fn step(row: &[u8], place: usize) -> Shown
         row.len(),
         mode_after,
         opened_after,
-        &mut scrap,
+        &mut no_room,
         0,
     )
     else {

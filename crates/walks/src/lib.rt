@@ -48,7 +48,7 @@ fn put(text: &mut [u32], count: usize, lead: u32, point: u32) -> usize
     count + 2
 }
 
-// U+2014 behind another: as many as follow, behind the code points that are counted. (This and the next two read what `walk` would, with less to ask at each
+// U+2014 behind another: as many as follow, behind the code points that are counted. (This and the next two read what `stretch` would, with less to ask at each
 // sign.)
 fn dashes(
     row: &[u8],
