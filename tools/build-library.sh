@@ -34,7 +34,7 @@ done
 exec '$clang' "\$@"
 TEXT
 chmod +x "$room/kit/$toolchain/bin/clang"
-# an archive that is there already would not be compiled again
+# so that rt has it compiled in any case
 rm -f "$archive"
 RATTLE_HOME=$room/kit rt staticlib desk || exit
 # what rt wrote is compiled otherwise: nothing is left if the rest fails

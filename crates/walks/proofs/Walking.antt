@@ -209,14 +209,12 @@ module _ {row : Row} {stop from m₀ o₀ n₀ m o n at : ℕ} {t₀ t : List �
       (mid-more w (runs-on ss j m' v d leads count wrote) e, λ h. omega (arith, further h, f))
   mid-stride w (strides-nowhere j within cells none-left same) e = let z : _≡_ {A = ℕ} 0 1 = cc in absurd (omega arith)
 
-  pub mid-uncounted : length t ≤ n → (w : Walked) → Strides row stop at m o 0 [] [] w → {k n' u c : ℕ} → w ≡ On k n' u c
+  pub mid-unwritten : length t ≤ n → (w : Walked) → Strides row stop at m o 0 [] [] w → {k n' u c : ℕ} → w ≡ On k n' u c
       → Mid row stop from m₀ o₀ n₀ t₀ t n' u (n + c) k × (at < stop → at < k)
-  mid-uncounted full w (strides-on ss j m' v d leads further count wrote) {k} {n'} {u} {c} e =
+  mid-unwritten full w (strides-on ss j m' v d leads further count wrote) {k} e =
       let f : j ≡ k = cc in
-      let g : d ≡ c = cc in
-      let q : w ≡ On j m' v d = refl in
       (mid-more (On j m' v (n + d)) (runs-on ss j m' v (n + d) leads (omega (arith, count)) (wrote-full t n (printOf ss) full)) cc, λ h. omega (arith, further h, f))
-  mid-uncounted full w (strides-nowhere j within cells none-left same) e = let z : _≡_ {A = ℕ} 0 1 = cc in absurd (omega arith)
+  mid-unwritten full w (strides-nowhere j within cells none-left same) e = let z : _≡_ {A = ℕ} 0 1 = cc in absurd (omega arith)
 
   pub mid-strayed : {n' : ℕ} {u u' t' : List ℕ} (w : Walked) → Strides row stop at m o n' u u' w → {k : ℕ} → w ≡ Nowhere k
       → (length u' ≡ length u → length t' ≡ length t) → Goes row stop from m₀ o₀ n₀ t₀ t' w
@@ -236,7 +234,7 @@ module _ {row : Row} {stop from m₀ o₀ n₀ m o n at : ℕ} {t₀ t : List �
 
 -- ROOM that is left
 pub room-of : {stop room : ℕ} (w : Walked) → RoomLeft stop room w → {k m u c : ℕ} → w ≡ On k m u c → Room stop k c room
-room-of {stop} {room} w (room-left j m' v d h) {k} {m} {u} {c} e =
+room-of w (room-left j m' v d h) {k} {c = c} e =
     let f : j ≡ k = cc in
     let g : d ≡ c = cc in
     omega (arith, h, f, g)

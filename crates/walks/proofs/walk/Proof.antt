@@ -1,11 +1,11 @@
 -- `walk`: between two stretches, what was read of the part so far, its count and what is written (`Mid`). A stretch is more signs, whether it is written
--- (`mid-stride`) or only counted (`mid-uncounted`). The measure is what is left of the row. Assumes nothing.
+-- (`mid-stride`) or only counted (`mid-unwritten`). The measure is what is left of the row. Assumes nothing.
 use mathlib.Core.Path.{refl}
 use Prim.Native.Nat.{ℕ, _+_, _-_, _<_}
 use native.Mathlib.Omega.{arith}
 use borrow.Author.Needs.{needs}
 use lib.ListN.{length}
-use Rattle.walks.proofs.Walking.{Mid, mid-start, mid-few, mid-stride, mid-uncounted, mid-strayed, mid-end, strides-same}
+use Rattle.walks.proofs.Walking.{Mid, mid-start, mid-few, mid-stride, mid-unwritten, mid-strayed, mid-end, strides-same}
 use Rattle.walks.proofs.walk.Statement.{statement}
 use Rattle.walks.proofs.walk.Tie as tie
 use Rattle.walks.proofs.walk.Reads as reads
@@ -126,7 +126,7 @@ on k =
     let u = u-of k in
     let l = at-u u in
     let m = l .loop .inv in
-    mid-uncounted m (omega (arith, u .before .if1 .left, m .wrote .0)) (u .unwritten .result) (u .unwritten .ensures) (k .before .found2 .given .1)
+    mid-unwritten m (omega (arith, u .before .if1 .left, m .wrote .0)) (u .unwritten .result) (u .unwritten .ensures) (k .before .found2 .given .1)
 
 add-count : tie.Need-add-count Inv-loop μ-loop
 add-count c =
