@@ -9,7 +9,7 @@ use Rattle.lines.proofs.hold.Tie as tie
 slice-write-line : tie.Need-slice-write-line
 slice-write-line c = search rules
 
-add-result : tie.Need-overflow-add-result
+add-result : tie.Need-overflow_add-result
 add-result c = search rules
 
 same_length : tie.Need-same-length

@@ -24,7 +24,7 @@ loop-holds c = (refl, λ t new p. p)
 shared-slice-read-byte : tie.Need-shared-slice-read-byte invariant-loop decreases-loop
 shared-slice-read-byte c = search rules
 
-add_at : tie.Need-overflow-add-at invariant-loop decreases-loop
+add_at : tie.Need-overflow_add-at invariant-loop decreases-loop
 add_at c = search rules
 
 same_length : tie.Need-same-length invariant-loop decreases-loop
