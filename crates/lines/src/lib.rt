@@ -1,5 +1,7 @@
 // The lines of an input that comes by chunks (paper 01, "The line program"). A line is gathered in a room that the caller lends; of a line that is longer
 // than its room only that is kept. Each byte is looked at once, however the input comes and however long a line is.
+#![tactic(auto)]
+
 ghost use Rattle.std.specs.Prelude.{◌≡◌, [], ◌∷◌};
 ghost use Rattle.lines.specs.Held.{Keeps, TakesIn, Moves, is_long};
 
