@@ -15,6 +15,27 @@ import sys
 HERE = os.path.dirname(os.path.realpath(__file__))
 TABLE = os.path.join(HERE, "ported-names.tsv")
 DECLARED = re.compile(r"^(\s*)((?:pub |abbrev |unfoldable |mutual )*)([^\s(){}.;,@\"«»:]+)((?: \{[^{}\n]*\})*) :(?:\s|$)")
+# What the rule alone would spell badly: definitions that would get '_lem', and constructors that would meet a definition. Each row: the name that the rule gives, the
+# one that stands, and the files that it is for (all, where none are named).
+AMENDED = [
+    ("no_sign_lem", "no_sign", ""),
+    ("room_of_lem", "room_of", ""),
+    ("ways_of_lem", "ways_of", ""),
+    ("most_bytes", "most_bytes_lem", ""),
+    ("most_bytes_lem", "most_bytes", ""),
+    ("no_line_lem", "no_line", ""),
+    ("no_line", "no_line_left", "crates/programs/"),
+    ("no_text_lem", "no_text", ""),
+    ("no_text", "refused_no_text", ""),
+    ("too_long_lem", "too_long", ""),
+    ("too_long", "refused_too_long", "crates/rules/|crates/desk/|crates/transcriber/"),
+    ("outside_form_lem", "refused_outside_form", ""),
+    ("shares_cells_lem", "refused_shares_cells", ""),
+    ("not_a_cell_lem", "refused_not_a_cell", ""),
+    ("print_of_lem", "print_of_pieces", ""),
+    ("in_denominator_lem", "is_in_denominator", ""),
+    ("after_digit_lem", "past_after_digit", ""),
+]
 TOKEN = re.compile(r"[^\s(){}.;,@\"«»`\[\]|]+")
 
 
@@ -69,6 +90,15 @@ def turned(text, rows):
     return TOKEN.sub(lambda m: rows.get(m[0], m[0]), text)
 
 
+def amended(path):
+    """The rows of AMENDED for a file. Rust's own names stay, which none of a definition is spelled like."""
+    rows = {}
+    for name, new, where in AMENDED:
+        if re.match(where, path) and not (path.endswith(".rt") and not name.endswith("_lem")):
+            rows[name] = new
+    return rows
+
+
 def in_quotes(text, rows):
     return re.sub(r"`[^`\n]+`", lambda m: turned(m[0], rows), text)
 
@@ -96,7 +126,8 @@ def turn_crates():
         with open(path, encoding="utf-8") as f:
             old = f.read()
         remark = "//" if path.endswith(".rt") else "--"
-        n += write(path, "".join(turn_line(l, rows, remark) for l in old.splitlines(keepends=True)), old)
+        text = "".join(turn_line(l, rows, remark) for l in old.splitlines(keepends=True))
+        n += write(path, turned(text, amended(path)), old)
     every = read_table()
     for name, new in list(every.items()):
         every[name] = rows.get(new, new)
@@ -104,7 +135,7 @@ def turn_crates():
     for path in sorted(glob.glob("crates/*/must-fail/*.edit")):
         with open(path, encoding="utf-8") as f:
             old = f.read()
-        n += write(path, "".join(turned(l, every) if re.match(r"(old|new): ", l) else l for l in old.splitlines(keepends=True)), old)
+        n += write(path, "".join(turned(turned(l, every), amended(path)) if re.match(r"(old|new): ", l) else l for l in old.splitlines(keepends=True)), old)
     with open(TABLE, "w", encoding="utf-8") as f:
         f.write("".join(f"{a}\t{b}\n" for a, b in sorted(every.items())))
     print(f"port-names: {len(rows)} names, {n} files; {sum(new.endswith('_lem') for new in rows.values())} lemmas got '_lem': ", *sorted(new for new in rows.values() if new.endswith("_lem")))

@@ -106,8 +106,8 @@ abbrev pub one_under : ℕ
 one_under = 91
 
 -- THE FAULTS: a code point with no sign; outside the two forms; it would share its cells
-abbrev pub no_sign_lem : ℕ
-no_sign_lem = 92
+abbrev pub no_sign : ℕ
+no_sign = 92
 
 abbrev pub outside_form : ℕ
 outside_form = 93

@@ -32,7 +32,7 @@ stage_at past-percent f = state.free
 -- THE DEED: what the table says. (There is room for 16 states and 16 classes.)
 unfoldable pub deed_of : ℕ → ℕ → ℕ
 unfolding deeds
-deed_of s c = get_or deeds (s % 16 * 16 + c % 16) act.no_sign_lem
+deed_of s c = get_or deeds (s % 16 * 16 + c % 16) act.no_sign
 
 -- the questions, decided by what follows
 unfoldable pub settled_by : ℕ → Future → ℕ
@@ -66,8 +66,8 @@ silent_as c = cond (c is aBar) act.bare_way act.silent_way
 -- the deed of a class and an outcome of the rules, before a place of this state. (No place has `breaksPair` for its outcome.)
 unfoldable pub act_of : Class → Outcome → ℕ → ℕ
 unfolding silent_as
-act_of c (fault lacksSign) s = act.no_sign_lem
-act_of c (fault breaksPair) s = act.no_sign_lem
+act_of c (fault lacksSign) s = act.no_sign
+act_of c (fault breaksPair) s = act.no_sign
 act_of c (fault outside_form) s = act.outside_form
 act_of c (fault shares_cells) s = act.shares_cells
 act_of c silent s = s * act.ways + silent_as c

@@ -2,7 +2,7 @@
 // What is done at a place, by its state and the class of its code point: 16 rows of 16. Where there is no row or no class of a number,
 // there is no sign.
 ghost use Rattle.std.specs.Prelude.{◌≡◌, ◌<◌, get_or};
-ghost use Rattle.deeds.specs.Acts.{no_sign_lem};
+ghost use Rattle.deeds.specs.Acts.{no_sign};
 ghost use Rattle.deeds.specs.Deeds.{deeds, deed_count};
 
 use crate::{
@@ -14,7 +14,7 @@ use crate::{
 // There is no other place in the table than these.
 pub fn deed_at(place: usize) -> usize
     requires { place < deed_count }
-    ensures { result ≡ get_or deeds place no_sign_lem }
+    ensures { result ≡ get_or deeds place no_sign }
 {
     match place {
         // FREE

@@ -45,12 +45,12 @@ module _ (tb : Table) (p : Text) (lent : List ℕ) where
   refused_print a x e h = (a, lent, transcribing.refused a x e h)
 
   print_outcome : (a : rules.Answer) → rules.PrintAnswer tb p (length lent) a → Outcome
-  print_outcome a (rules.print_refused x (rules.too_long l)) = refused_print (prints.TooLong _) _ refl (rules.print_refused _ (rules.too_long l))
+  print_outcome a (rules.print_refused x (rules.refused_too_long l)) = refused_print (prints.TooLong _) _ refl (rules.print_refused _ (rules.refused_too_long l))
   print_outcome a (rules.print_refused x (rules.no_sign n l f)) = refused_print (prints.NoSign n) _ refl (rules.print_refused _ (rules.no_sign n l f))
   print_outcome a (rules.print_refused x (rules.pair_broken n l f)) = refused_print (prints.PairBroken n) _ refl (rules.print_refused _ (rules.pair_broken n l f))
   print_outcome a (rules.print_refused x (rules.left_open l f o)) = refused_print (prints.PairBroken _) _ refl (rules.print_refused _ (rules.left_open l f o))
-  print_outcome a (rules.print_refused x (rules.outside_form_lem n l f)) = refused_print (prints.OutsideForm n) _ refl (rules.print_refused _ (rules.outside_form_lem n l f))
-  print_outcome a (rules.print_refused x (rules.shares_cells_lem n l f)) = refused_print (prints.SharesCells n) _ refl (rules.print_refused _ (rules.shares_cells_lem n l f))
+  print_outcome a (rules.print_refused x (rules.refused_outside_form n l f)) = refused_print (prints.OutsideForm n) _ refl (rules.print_refused _ (rules.refused_outside_form n l f))
+  print_outcome a (rules.print_refused x (rules.refused_shares_cells n l f)) = refused_print (prints.SharesCells n) _ refl (rules.print_refused _ (rules.refused_shares_cells n l f))
   print_outcome a (rules.print_refused x (rules.row_needs_room r l e k)) =
       refused_print (prints.NeedsRoom _) _ refl (rules.print_refused _ (rules.row_needs_room r l e k))
   print_outcome a (rules.transcribed r l e k) = (prints.Done (length r), laid r lent, transcribing.done r (rules.transcribed r l e k))
@@ -58,8 +58,8 @@ module _ (tb : Table) (p : Text) (lent : List ℕ) where
 -- the answer of a refused row
 row_answer : (tb : Table) (r : Row) (x : Refusal) → rules.RowRefused tb r x → (a : row.Answer) × (reading.refusal_of a ≡ some x)
 row_answer tb r x (rules.long_row l) = (rows.TooLong _, refl)
-row_answer tb r x (rules.not_a_cell_lem n l k u f) = (rows.NotACell n, refl)
-row_answer tb r x (rules.no_text p h) = (rows.NoText, refl)
+row_answer tb r x (rules.refused_not_a_cell n l k u f) = (rows.NotACell n, refl)
+row_answer tb r x (rules.refused_no_text p h) = (rows.NoText, refl)
 row_answer tb r x (rules.long_text t p h l) = (rows.TooLong _, refl)
 
 module _ (tb : Table) (r : Row) where

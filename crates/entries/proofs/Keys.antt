@@ -9,7 +9,7 @@ use Prim.Native.Char.{code}
 use lib.Dec.{T, eqb, eqb→eq}
 use borrow.Author.Tests.{ne_eqb}
 use types.Run.{OneOf}
-use Rattle.rules.specs.Sorts.{Sort, no_sign_lem, Item, Table}
+use Rattle.rules.specs.Sorts.{Sort, no_sign, Item, Table}
 use Rattle.rules.specs.Rows.{sort_in}
 use Rattle.rules.specs.Castilian.{castilian}
 use Rattle.rules.specs.Normal.{replacements}
@@ -71,30 +71,30 @@ module _ {A : Type 0} where
   chosen_rest es n d r = choose_none es n d (rest_none Unit (keys_of es) n r).1
 
 -- A test of code point and sort that every entry passes: it holds at c, or c has no sign.
-pub hit : (f : ℕ → Sort → Bool) (tb : Table) → T (every (λ (i : Item). f i.0 i.1) tb) → (c : ℕ) → T (f c (sort_in tb c)) ⊎ (sort_in tb c ≡ no_sign_lem)
+pub hit : (f : ℕ → Sort → Bool) (tb : Table) → T (every (λ (i : Item). f i.0 i.1) tb) → (c : ℕ) → T (f c (sort_in tb c)) ⊎ (sort_in tb c ≡ no_sign)
 unfolding sort_in
 hit f [] t c = inr refl
 hit f (i ∷ tb) t c = go (eqb i.0 c) refl (hit f tb (and_right (f i.0 i.1) (every (λ (i : Item). f i.0 i.1) tb) t) c)
   where
-    go : (b : Bool) → eqb i.0 c ≡ b → T (f c (sort_in tb c)) ⊎ (sort_in tb c ≡ no_sign_lem)
+    go : (b : Bool) → eqb i.0 c ≡ b → T (f c (sort_in tb c)) ⊎ (sort_in tb c ≡ no_sign)
         → T (f c (elim b as (λ _. Sort) [ true ↦ i.1 | false ↦ sort_in tb c ]))
-        ⊎ (◌≡◌ {A = Sort} (elim b as (λ _. Sort) [ true ↦ i.1 | false ↦ sort_in tb c ]) no_sign_lem)
+        ⊎ (◌≡◌ {A = Sort} (elim b as (λ _. Sort) [ true ↦ i.1 | false ↦ sort_in tb c ]) no_sign)
     go true q ih =
         inl (subst (λ (k : ℕ). T (f k i.1)) (eqb→eq i.0 c (rw q tt)) (and_left (f i.0 i.1) (every (λ (i : Item). f i.0 i.1) tb) t))
     go false q ih = ih
 
 -- a test of the sort alone, which holds without a sign too: it holds at every code point
-pub at_every : (f : Sort → Bool) (tb : Table) → T (f no_sign_lem) → T (every (λ (i : Item). f i.1) tb) → (c : ℕ) → T (f (sort_in tb c))
+pub at_every : (f : Sort → Bool) (tb : Table) → T (f no_sign) → T (every (λ (i : Item). f i.1) tb) → (c : ℕ) → T (f (sort_in tb c))
 at_every f tb none t c = ⊎_elim (λ h. h) (λ e. subst (λ (s : Sort). T (f s)) (sym e) none) (hit (λ k s. f s) tb t c)
 
 -- A CODE POINT THAT IS NO KEY. A test that every key of the list passes, and c does not
-absent : (tb : Table) (f : ℕ → Bool) (c : ℕ) → T (every (λ (i : Item). f i.0) tb) → f c ≡ false → sort_in tb c ≡ no_sign_lem
+absent : (tb : Table) (f : ℕ → Bool) (c : ℕ) → T (every (λ (i : Item). f i.0) tb) → f c ≡ false → sort_in tb c ≡ no_sign
 unfolding sort_in
 absent [] f c t e = refl
 absent (i ∷ tb) f c t e =
     go (eqb i.0 c) refl (absent tb f c (and_right (f i.0) (every (λ (i : Item). f i.0) tb) t) e)
   where
-    go : (b : Bool) → eqb i.0 c ≡ b → sort_in tb c ≡ no_sign_lem → ◌≡◌ {A = Sort} (elim b as (λ _. Sort) [ true ↦ i.1 | false ↦ sort_in tb c ]) no_sign_lem
+    go : (b : Bool) → eqb i.0 c ≡ b → sort_in tb c ≡ no_sign → ◌≡◌ {A = Sort} (elim b as (λ _. Sort) [ true ↦ i.1 | false ↦ sort_in tb c ]) no_sign
     go true q ih =
         let w : f i.0 ≡ false = ap f (eqb→eq i.0 c (rw q tt)) ∙ e in
         absurd (rw w at (and_left (f i.0) (every (λ (i : Item). f i.0) tb) t))
@@ -103,6 +103,6 @@ absent (i ∷ tb) f c t e =
 -- of the Castilian list, where each code point that is taken for one other passes the test too
 pub none_of : (listed : ℕ → Bool) (c : ℕ) → T (every (λ (i : Item). listed i.0) castilian)
     → T (every (λ (r : Replacement). listed (code r.0) || eqb (one_for (code r.0)) (code r.0)) replacements)
-    → listed c ≡ false → word no_sign_lem ≡ entry_of castilian (one_for c)
+    → listed c ≡ false → word no_sign ≡ entry_of castilian (one_for c)
 unfolding entry_of
 none_of listed c t u e = sym (ap (entry_of castilian) (itself_else listed u c e) ∙ ap word (absent castilian listed c t e))

@@ -24,5 +24,5 @@ abbrev pub room_for_text : ℕ
 room_for_text = 4096
 
 -- no answer has more bytes (`programs/Claims.MostBytes`)
-abbrev pub most_bytes_lem : ℕ
-most_bytes_lem = 106499
+abbrev pub most_bytes : ℕ
+most_bytes = 106499

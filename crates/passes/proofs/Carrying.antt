@@ -10,7 +10,7 @@ use lib.Dec.{eqb}
 use lib.ListN.{length, take, get_or, set, length-set}
 use lib.Seq.{take-set-le}
 use borrow.Author.Tests.{eqb-true, eqb-false, ne_eqb}
-use Rattle.rules.specs.Sorts.{Sort, letter, digit, full_stop, comma, hyphen, dash, fractionBar, ordinal, pair_mark, percent, plain, no_sign_lem, Table, Class, class, class_number, capital}
+use Rattle.rules.specs.Sorts.{Sort, letter, digit, full_stop, comma, hyphen, dash, fractionBar, ordinal, pair_mark, percent, plain, no_sign, Table, Class, class, class_number, capital}
 use Rattle.rules.specs.Pairs.{mark_of}
 use Rattle.rules.specs.Rows.{sort_in}
 use Rattle.rules.proofs.Sides.{mixed_next}
@@ -42,7 +42,7 @@ capital_unmarked (ordinal b) e = refl
 capital_unmarked (pair_mark k b w) e = absurd (omega (arith, e))
 capital_unmarked (percent w) e = refl
 capital_unmarked (plain w) e = refl
-capital_unmarked no_sign_lem e = refl
+capital_unmarked no_sign e = refl
 
 -- its sign has two cells
 pub two_cells : (e : ℕ) → 2 ≡ count_of (sign_by act.one_capital_way e)

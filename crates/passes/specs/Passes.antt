@@ -54,7 +54,7 @@ abbrev pub small_among_capitals : ℕ → ℕ → Bool
 small_among_capitals s e = eqb s capitals && ltb (class_in e) (class_number capital)
 
 abbrev pub faults : ℕ → List (ℕ × Answer)
-faults i = (act.no_sign_lem, NoSign i) ∷ (act.outside_form, OutsideForm i) ∷ []
+faults i = (act.no_sign, NoSign i) ∷ (act.outside_form, OutsideForm i) ∷ []
 
 unfoldable pub fault_by : ℕ → ℕ → Answer
 fault_by d i = choose (faults i) d (SharesCells i)

@@ -13,7 +13,7 @@ use Rattle.rules.proofs.Demands.{every_print_answered, every_row_answered, one_p
 use Rattle.utf8.specs.Decoding.{decoded}
 use Rattle.printing.specs.Printed.{bytes_of_text, characters_of}
 use Rattle.printing.proofs.Lengths.{text_few}
-use Rattle.replies.specs.Replies.{ok_line, no_line_lem}
+use Rattle.replies.specs.Replies.{ok_line, no_line}
 use Rattle.replies.proofs.Lengths.{no_line_short, ok_line_length}
 use Rattle.patterns.specs.Patterns.{row_of}
 use Rattle.printouts.specs.Lines.{TranscribePrints, ReadPrints, prints_cells, prints_text, prints_refusal}
@@ -27,14 +27,14 @@ every_line_transcribed room line = by_answer (every_print_answered (decoded line
   where
     by_answer : (a : Answer) → PrintAnswer castilian (decoded line) room a → (x : List ℕ) × TranscribePrints room line x
     by_answer (gives r) h = (ok_line (characters_of r), prints_cells r h)
-    by_answer (refuses x) h = (no_line_lem x, prints_refusal x h)
+    by_answer (refuses x) h = (no_line x, prints_refusal x h)
 
 pub every_row_line_read : EveryRowLineRead
 every_row_line_read room line = by_answer (every_row_answered (row_of line) room).0 (every_row_answered (row_of line) room).1
   where
     by_answer : (a : Answer) → RowAnswer castilian (row_of line) room a → (x : List ℕ) × ReadPrints room line x
     by_answer (gives t) h = (ok_line (bytes_of_text t), prints_text t h)
-    by_answer (refuses x) h = (no_line_lem x, prints_refusal x h)
+    by_answer (refuses x) h = (no_line x, prints_refusal x h)
 
 -- and one only
 gives_same : (r s : List ℕ) → gives r ≡ gives s → r ≡ s
@@ -52,14 +52,14 @@ one_transcribed_line room line x y (prints_cells r g) (prints_cells s h) =
 one_transcribed_line room line x y (prints_cells r g) (prints_refusal z h) = gives_not_refuses (one_print_answer (decoded line) room (gives r) (refuses z) g h)
 one_transcribed_line room line x y (prints_refusal z h) (prints_cells r g) = gives_not_refuses (one_print_answer (decoded line) room (gives r) (refuses z) g h)
 one_transcribed_line room line x y (prints_refusal z h) (prints_refusal w k) =
-    ap no_line_lem (refuses_same z w (one_print_answer (decoded line) room (refuses z) (refuses w) h k))
+    ap no_line (refuses_same z w (one_print_answer (decoded line) room (refuses z) (refuses w) h k))
 
 pub one_read_line : OneReadLine
 one_read_line room line x y (prints_text t g) (prints_text u h) =
     ap (λ (q : List ℕ). ok_line (bytes_of_text q)) (gives_same t u (one_row_answer (row_of line) room (gives t) (gives u) g h))
 one_read_line room line x y (prints_text t g) (prints_refusal z h) = gives_not_refuses (one_row_answer (row_of line) room (gives t) (refuses z) g h)
 one_read_line room line x y (prints_refusal z h) (prints_text t g) = gives_not_refuses (one_row_answer (row_of line) room (gives t) (refuses z) g h)
-one_read_line room line x y (prints_refusal z h) (prints_refusal w k) = ap no_line_lem (refuses_same z w (one_row_answer (row_of line) room (refuses z) (refuses w) h k))
+one_read_line room line x y (prints_refusal z h) (prints_refusal w k) = ap no_line (refuses_same z w (one_row_answer (row_of line) room (refuses z) (refuses w) h k))
 
 -- how long a printed line is
 transcribed_short : (line x : List ℕ) → TranscribePrints 12288 line x → length x ≤ longest_printed

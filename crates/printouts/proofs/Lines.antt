@@ -12,7 +12,7 @@ use Rattle.rules.specs.Answers.{gives, refuses, PrintAnswer, transcribed, RowAns
 use Rattle.rules.proofs.Refusals.{refusal_not_0}
 use Rattle.utf8.specs.Decoding.{decoded}
 use Rattle.printing.specs.Printed.{bytes_of_text, characters_of}
-use Rattle.replies.specs.Replies.{ok_line, refusal_line, no_line_lem}
+use Rattle.replies.specs.Replies.{ok_line, refusal_line, no_line}
 use Rattle.patterns.specs.Patterns.{row_of}
 use Rattle.printouts.specs.Lines.{TranscribePrints, ReadPrints, prints_cells, prints_text, prints_refusal, reply_of, row_reply, text_reply}
 
@@ -25,7 +25,7 @@ module _ (n m : ℕ) (bytes : List ℕ) where
   reply_refused h = rw (ne_eqb n 0 h) refl
 
   -- no refusal has the number 0
-  reply_refusal : (x : Refusal) → n ≡ number_of x → m ≡ second_of x → no_line_lem x ≡ reply_of n m bytes
+  reply_refusal : (x : Refusal) → n ≡ number_of x → m ≡ second_of x → no_line x ≡ reply_of n m bytes
   reply_refusal x e f =
       ap (λ (k : ℕ). refusal_line k (second_of x)) (sym e) ∙ ap (refusal_line n) (sym f) ∙ reply_refused (λ z. omega (arith, z, e, refusal_not_0 x))
 

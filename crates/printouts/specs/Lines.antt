@@ -8,18 +8,18 @@ use Rattle.rules.specs.Refusals.{Refusal}
 use Rattle.rules.specs.Answers.{gives, refuses, PrintAnswer, RowAnswer}
 use Rattle.utf8.specs.Decoding.{decoded}
 use Rattle.printing.specs.Printed.{bytes_of_text, characters_of}
-use Rattle.replies.specs.Replies.{ok_line, refusal_line, no_line_lem}
+use Rattle.replies.specs.Replies.{ok_line, refusal_line, no_line}
 use Rattle.patterns.specs.Patterns.{row_of}
 
 -- WHAT `transcribe` PRINTS for a line that is not long, with so much room lent: "`ok`, a blank and one character U+2800 plus the cell for each cell; or `no`, .."
 pub data TranscribePrints (room : ℕ) (line : List ℕ) : List ℕ → Type 0 where
   prints_cells : (r : Row) → PrintAnswer castilian (decoded line) room (gives r) → TranscribePrints room line (ok_line (characters_of r))
-  prints_refusal : (x : Refusal) → PrintAnswer castilian (decoded line) room (refuses x) → TranscribePrints room line (no_line_lem x)
+  prints_refusal : (x : Refusal) → PrintAnswer castilian (decoded line) room (refuses x) → TranscribePrints room line (no_line x)
 
 -- WHAT `read` PRINTS: "`ok`, a blank and the text in UTF-8, or `no N M`"
 pub data ReadPrints (room : ℕ) (line : List ℕ) : List ℕ → Type 0 where
   prints_text : (t : Text) → RowAnswer castilian (row_of line) room (gives t) → ReadPrints room line (ok_line (bytes_of_text t))
-  prints_refusal : (x : Refusal) → RowAnswer castilian (row_of line) room (refuses x) → ReadPrints room line (no_line_lem x)
+  prints_refusal : (x : Refusal) → RowAnswer castilian (row_of line) room (refuses x) → ReadPrints room line (no_line x)
 
 -- WHAT IS PRINTED OF TWO NUMBERS: 0 and a count are told of what was given, any others are those of a refusal
 abbrev pub reply_of : ℕ → ℕ → List ℕ → List ℕ

@@ -18,7 +18,7 @@ use Rattle.lines.specs.Lines.{lines_of}
 use Rattle.utf8.specs.Decoding.{decoded}
 use Rattle.encoding.specs.Encoding.{encoded_of}
 use Rattle.printing.specs.Printed.{characters_of, bytes_of_text}
-use Rattle.replies.specs.Replies.{ok_line, no_line_lem, refusal_line, long_line, line_end}
+use Rattle.replies.specs.Replies.{ok_line, no_line, refusal_line, long_line, line_end}
 use Rattle.printouts.specs.Lines.{prints_cells, prints_refusal}
 use Rattle.printouts.proofs.Claims as printouts
 use Rattle.printouts.proofs.Lengths.{characters_three, given_bytes}
@@ -28,7 +28,7 @@ use Rattle.limits.specs.declared.Program.{Program}
 use Rattle.limits.specs.declared.Program.TheVariants.{Transcribe, Read, Steps}
 use Rattle.limits.specs.Limits.{longest_line, room_for_cells, room_for_text}
 use Rattle.limits.proofs.Claims.{rows_fit}
-use Rattle.programs.specs.Answers.{Answered, AnswerTo, too_long, answered, OutputFor, no_line, one_more}
+use Rattle.programs.specs.Answers.{Answered, AnswerTo, too_long, answered, OutputFor, no_line_left, one_more}
 use Rattle.programs.specs.Claims.{EveryInputAnswered, OneOutput, MostBytes, PaperExample, ReadUndoesTranscribe}
 use Rattle.programs.proofs.Bounds as bounds
 
@@ -54,7 +54,7 @@ one_line p line x y (answered v h a) (too_long k) = absurd (omega (arith, h, k))
 one_line p line x y (answered v h a) (answered w k b) = answer_same p line x y a b
 
 every_lines : (p : Program) (ls : List (List ℕ)) → (out : List ℕ) × OutputFor p ls out
-every_lines p [] = ([], no_line)
+every_lines p [] = ([], no_line_left)
 every_lines p (l ∷ ls) =
     let a = every_line p l in
     let b = every_lines p ls in
@@ -64,15 +64,15 @@ pub every_input_answered : EveryInputAnswered
 every_input_answered p input = every_lines p (lines_of input)
 
 one_lines : (p : Program) (ls : List (List ℕ)) (a b : List ℕ) → OutputFor p ls a → OutputFor p ls b → a ≡ b
-one_lines p ls a b no_line no_line = refl
+one_lines p ls a b no_line_left no_line_left = refl
 one_lines p ls a b (one_more l ms x y h o) (one_more k ns v w i q) =
     ap (λ (z : List ℕ). z ++ y) (one_line p l x v h i) ∙ ap (λ (z : List ℕ). v ++ z) (one_lines p ms y w o q)
 
 pub one_output : OneOutput
 one_output p input a b = one_lines p (lines_of input) a b
 
-pub most_bytes : MostBytes
-most_bytes = bounds.most_bytes
+pub most_bytes_lem : MostBytes
+most_bytes_lem = bounds.most_bytes_lem
 
 -- THE WAY BACK: what was transcribed has no more than 4,096 code points, and its row no more cells than the room
 print_short : (p : Text) (room : ℕ) (r : Row) → PrintAnswer castilian p room (gives r) → length (normal_of p) ≤ 4096
@@ -103,7 +103,7 @@ first_answer =
     let h = worked.1.1.1.1.0 in
     subst (λ (a : Answer). PrintAnswer castilian (print "8b") 12288 a) (shown_row h.0 (cells (3456 ∷ 125 ∷ 5 ∷ 12 ∷ [])) h.2) h.1
 
-second_answer : (x : Refusal) × PrintAnswer castilian (print "1.b") 12288 (refuses x) × (no_line_lem x ≡ print "no 5 2" ++ line_end ∷ [])
+second_answer : (x : Refusal) × PrintAnswer castilian (print "1.b") 12288 (refuses x) × (no_line x ≡ print "no 5 2" ++ line_end ∷ [])
 unfolding lines
 second_answer =
     let h = worked.1.1.1.1.1.1.1.0 in
@@ -124,6 +124,6 @@ paper_example =
     let first : AnswerTo Transcribe (print "8b") (bytes_of_text (print "ok ⠼⠓⠐⠃") ++ line_end ∷ []) =
     subst (λ (y : List ℕ). AnswerTo Transcribe (print "8b") y) first_line (answered (ok_line (characters_of (cells (3456 ∷ 125 ∷ 5 ∷ 12 ∷ [])))) (omega arith) (prints_cells (cells (3456 ∷ 125 ∷ 5 ∷ 12 ∷ [])) first_answer)) in
     let second : AnswerTo Transcribe (print "1.b") (print "no 5 2" ++ line_end ∷ []) =
-    subst (λ (y : List ℕ). AnswerTo Transcribe (print "1.b") y) x.2 (answered (no_line_lem x.0) (omega arith) (prints_refusal x.0 x.1)) in
+    subst (λ (y : List ℕ). AnswerTo Transcribe (print "1.b") y) x.2 (answered (no_line x.0) (omega arith) (prints_refusal x.0 x.1)) in
     one_more (print "8b") (print "1.b" ∷ []) (bytes_of_text (print "ok ⠼⠓⠐⠃") ++ line_end ∷ []) (print "no 5 2" ++ line_end ∷ []) first
-    (one_more (print "1.b") [] (print "no 5 2" ++ line_end ∷ []) [] second no_line)
+    (one_more (print "1.b") [] (print "no 5 2" ++ line_end ∷ []) [] second no_line_left)

@@ -13,15 +13,15 @@ use Rattle.printing.specs.Printed.{Prints}
 use Rattle.printing.proofs.Printed.{prints_laid}
 use Rattle.replies.specs.Replies.{long_line}
 use Rattle.limits.specs.declared.Program.{Program}
-use Rattle.limits.specs.Limits.{longest_line, most_bytes_lem}
+use Rattle.limits.specs.Limits.{longest_line, most_bytes}
 use Rattle.programs.specs.Answers.{Answered, AnswerTo, too_long, answered, AnswersLine}
 
 -- what is printed from the front, where there is room for all of it
 all_printed : (out x : List ℕ) (r : ℕ) (new : List ℕ) → length x ≤ length out → Prints out 0 x r new → (r ≡ length x) × (new ≡ laid x out)
 all_printed out x r new h p = (omega (arith, h, p.place), prints_laid out x r new p h)
 
-module _ (p : Program) (room : List ℕ) (held : ℕ) (size : length room ≡ longest_line p) (out : List ℕ) (enough : most_bytes_lem ≤ length out)
-    (most : (line x : List ℕ) → AnswerTo p line x → length x ≤ most_bytes_lem) (r : ℕ) (new : List ℕ) where
+module _ (p : Program) (room : List ℕ) (held : ℕ) (size : length room ≡ longest_line p) (out : List ℕ) (enough : most_bytes ≤ length out)
+    (most : (line x : List ℕ) → AnswerTo p line x → length x ≤ most_bytes) (r : ℕ) (new : List ℕ) where
   ended : (line x : List ℕ) → AnswerTo p line x → Prints out 0 x r new → (x : List ℕ) × AnswerTo p line x × (r ≡ length x) × (new ≡ laid x out)
   ended line x a print =
       let done = all_printed out x r new (omega (arith, most line x a, enough)) print in

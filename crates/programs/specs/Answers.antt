@@ -24,7 +24,7 @@ pub data AnswerTo (p : Program) (line : List ℕ) : List ℕ → Type 0 where
 
 -- THE OUTPUT FOR AN INPUT: the answers to its lines, one behind another
 pub data OutputFor (p : Program) : List (List ℕ) → List ℕ → Type 0 where
-  no_line : OutputFor p [] []
+  no_line_left : OutputFor p [] []
   one_more : (l : List ℕ) (ls : List (List ℕ)) (x y : List ℕ) → AnswerTo p l x → OutputFor p ls y → OutputFor p (l ∷ ls) (x ++ y)
 
 abbrev pub Output : Program → List ℕ → List ℕ → Type 0

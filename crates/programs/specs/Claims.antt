@@ -10,7 +10,7 @@ use Rattle.printing.specs.Printed.{characters_of, bytes_of_text}
 use Rattle.replies.specs.Replies.{ok_line, line_end}
 use Rattle.limits.specs.declared.Program.{Program}
 use Rattle.limits.specs.declared.Program.TheVariants.{Transcribe, Read}
-use Rattle.limits.specs.Limits.{room_for_cells, most_bytes_lem}
+use Rattle.limits.specs.Limits.{room_for_cells, most_bytes}
 use Rattle.programs.specs.Answers.{AnswerTo, Output}
 
 -- Demand 1, of the programs: every input has an output, and "any two results allowed by one statement are proved equal"
@@ -22,7 +22,7 @@ OneOutput = (p : Program) (input a b : List ℕ) → Output p input a → Output
 
 -- the room that a program lends for an answer is enough
 abbrev pub MostBytes : Type 0
-MostBytes = (p : Program) (line x : List ℕ) → AnswerTo p line x → length x ≤ most_bytes_lem
+MostBytes = (p : Program) (line x : List ℕ) → AnswerTo p line x → length x ≤ most_bytes
 
 -- "Input of two lines, `8b` and `1.b`, gives exactly: .."
 abbrev pub PaperExample : Type 0

@@ -1,7 +1,7 @@
 // The three line programs: what each prints for a line. How long a line each takes and what it lends stands in `limits`, what an input is cut into in `lines`; reading and
 // writing stand in `filters`.
 ghost use Rattle.std.specs.Prelude.{◌≡◌, ◌≤◌, length};
-ghost use Rattle.limits.specs.Limits.{longest_row_line, longest_line, room_for_text, most_bytes_lem};
+ghost use Rattle.limits.specs.Limits.{longest_row_line, longest_line, room_for_text, most_bytes};
 ghost use Rattle.programs.specs.Answers.{AnswersLine};
 
 use limits::{Program, ROOM_FOR_CELLS};
@@ -21,7 +21,7 @@ pub fn answer_line(
     requires longest_row_line_in_bounds { longest_row_line ≤ length points.old }
     requires longest_row_line_in_bounds_2 { longest_row_line ≤ length row.old }
     requires text_len { length text.old ≡ room_for_text }
-    requires most_bytes_in_bounds { most_bytes_lem ≤ length out.old }
+    requires most_bytes_in_bounds { most_bytes ≤ length out.old }
     ensures answers_line { AnswersLine program line.now held out.old result out.new }
     ensures upper_bound { result ≤ length out.new }
 {

@@ -18,7 +18,7 @@ use Rattle.rules.proofs.Demands.{every_step_answered, one_step_answer, one_text,
 use Rattle.reader.proofs.Claims.{returns_the_text}
 use Rattle.encoding.specs.Encoding.{encoded_of}
 use Rattle.printing.specs.Printed.{bytes_of_text}
-use Rattle.replies.specs.Replies.{line_end, no_line_lem}
+use Rattle.replies.specs.Replies.{line_end, no_line}
 use Rattle.printing.proofs.Printed.{prints_as}
 use Rattle.printing.proofs.Claims.{one_printed, printed_in_front}
 use Rattle.patterns.specs.Patterns.{row_of}
@@ -48,7 +48,7 @@ one_stepped_line line p q (prints_signs t h) (prints_signs u k) =
 one_stepped_line line p q (prints_signs t h) (prints_refusal x k) = shows_not_stays (one_step_answer (row_of line) 0 _ _ (stepped t h) (stayed x k))
 one_stepped_line line p q (prints_refusal x k) (prints_signs t h) = shows_not_stays (one_step_answer (row_of line) 0 _ _ (stepped t h) (stayed x k))
 one_stepped_line line p q (prints_refusal x h) (prints_refusal y k) =
-    ap no_line_lem (stays_same x y (one_step_answer (row_of line) 0 (stays x) (stays y) (stayed x h) (stayed y k)))
+    ap no_line (stays_same x y (one_step_answer (row_of line) 0 (stays x) (stays y) (stayed x h) (stayed y k)))
 
 -- the bytes of two texts, joined
 bytes_append : (t u : Text) → bytes_of_text (t ++ u) ≡ bytes_of_text t ++ bytes_of_text u

@@ -10,13 +10,13 @@ use Rattle.rules.specs.Refusals.{Refusal}
 use Rattle.rules.specs.Answers.{RowRefused, ReadsAs}
 use Rattle.utf8.specs.Decoding.{decoded}
 use Rattle.printing.specs.Printed.{Prints}
-use Rattle.replies.specs.Replies.{line_end, no_line_lem}
+use Rattle.replies.specs.Replies.{line_end, no_line}
 use Rattle.patterns.specs.Patterns.{row_of}
 use Rattle.sign_lines.specs.Signs.{sign_lines}
 
 pub data StepsPrints (line : List ℕ) : List ℕ → Type 0 where
   prints_signs : (t : Text) → ReadsAs castilian (row_of line) t → StepsPrints line (print "ok" ++ sign_lines 0 (signs_of castilian t) ++ line_end ∷ [])
-  prints_refusal : (x : Refusal) → RowRefused castilian (row_of line) x → StepsPrints line (no_line_lem x)
+  prints_refusal : (x : Refusal) → RowRefused castilian (row_of line) x → StepsPrints line (no_line x)
 
 -- THE PROMISE
 pub record StepsLine (line points row out : List ℕ) (r : ℕ) (points' row' out' : List ℕ) : Type 0 where

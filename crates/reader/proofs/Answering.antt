@@ -12,9 +12,9 @@ use denote.Enum.Declared.{tag_of}
 use Rattle.rules.specs.Cells.{Text, Row}
 use Rattle.rules.specs.Signs.{print_of}
 use Rattle.rules.specs.Rows.{Reads}
-use Rattle.rules.specs.Refusals.{too_long_lem, needs_room, not_a_cell, no_text_lem, longest_text, longest_row, reported}
+use Rattle.rules.specs.Refusals.{too_long, needs_room, not_a_cell, no_text, longest_text, longest_row, reported}
 use Rattle.rules.specs.Answers as rules
-use Rattle.rules.specs.Answers.{refuses, ProperRow, ReadsAs, RowRefused, long_row, not_a_cell_lem, no_text, long_text, RowAnswer, text_needs_room}
+use Rattle.rules.specs.Answers.{refuses, ProperRow, ReadsAs, RowRefused, long_row, refused_not_a_cell, refused_no_text, long_text, RowAnswer, text_needs_room}
 use Rattle.rules.specs.Castilian.{castilian}
 use Rattle.rules.proofs.Finite.{nothing}
 use Rattle.rules.proofs.Machine.{at_rest}
@@ -33,14 +33,14 @@ use Rattle.reader.proofs.Whole.{left_text, no_longer, Told}
 -- THE ROW'S REFUSALS
 module _ (r : Row) where
   pub row_long : (n : ℕ) → longest_row < length r → n ≡ reported (length r) → RefusesRow castilian r (TooLong n)
-  row_long n l e = (too_long_lem n, refl, subst (λ (k : ℕ). RowRefused castilian r (too_long_lem k)) (sym e) (long_row l))
+  row_long n l e = (too_long n, refl, subst (λ (k : ℕ). RowRefused castilian r (too_long k)) (sym e) (long_row l))
 
   pub row_no_text : ProperRow r → ((t : Text) → Reads castilian r t → ⊥) → RefusesRow castilian r NoText
-  row_no_text proper none_reads = (no_text_lem, refl, no_text proper none_reads)
+  row_no_text proper none_reads = (no_text, refl, refused_no_text proper none_reads)
 
   module _ (short : length r ≤ longest_row) where
     pub row_not_cells : (n : ℕ) → FirstHigh r n → n < length r → RefusesRow castilian r (NotACell n)
-    row_not_cells n f l = (not_a_cell n, refl, not_a_cell_lem n short l (f.there l) f.below)
+    row_not_cells n f l = (not_a_cell n, refl, refused_not_a_cell n short l (f.there l) f.below)
 
     pub row_proper : (n : ℕ) → FirstHigh r n → length r ≤ n → ProperRow r
     row_proper n f all = record { short = short; cells = λ m h. f.below m (omega (arith, h, all)) }
@@ -60,9 +60,9 @@ module _ (r : Row) where
       pub row_long_text : longest_text < c → RefusesRow castilian r (TooLong c)
       row_long_text h =
           let e : reported c ≡ c = min-eq_left (omega (arith, no_longer r text has, told.count)) in (
-            too_long_lem c,
+            too_long c,
             refl,
-            subst (λ (n : ℕ). RowRefused castilian r (too_long_lem n)) (ap reported (sym told.count) ∙ e)
+            subst (λ (n : ℕ). RowRefused castilian r (too_long n)) (ap reported (sym told.count) ∙ e)
                 (long_text text (proper text has) has (omega (arith, told.count))),
           )
 

@@ -9,9 +9,9 @@ use lib.Seq.{get_or-append-add, get_or-drop}
 use Rattle.rules.specs.Cells.{Text, Row}
 use Rattle.rules.specs.Sorts.{Table}
 use Rattle.rules.specs.Rows.{Reads}
-use Rattle.rules.specs.Refusals.{Refusal, too_long_lem, at_fault, needs_room, not_a_cell, no_text_lem}
+use Rattle.rules.specs.Refusals.{Refusal, too_long, at_fault, needs_room, not_a_cell, no_text}
 use Rattle.rules.specs.Answers as rules
-use Rattle.rules.specs.Answers.{gives, refuses, ProperRow, ReadsAs, RowRefused, long_row, not_a_cell_lem, no_text, long_text, RowAnswer}
+use Rattle.rules.specs.Answers.{gives, refuses, ProperRow, ReadsAs, RowRefused, long_row, refused_not_a_cell, refused_no_text, long_text, RowAnswer}
 use Rattle.rules.specs.Castilian.{castilian}
 use Rattle.rules.proofs.Finite.{nothing}
 use Rattle.rules.proofs.Profile.{Sane}
@@ -28,11 +28,11 @@ use Rattle.reader.specs.Claims.{OneOutcome, CountIsLength, RestAsItWas, RefusalW
 
 -- an answer is known by its refusal
 back : Refusal → Answer
-back (too_long_lem n) = TooLong n
+back (too_long n) = TooLong n
 back (at_fault c n) = Done n
 back (needs_room n) = NeedsRoom n
 back (not_a_cell n) = NotACell n
-back no_text_lem = NoText
+back no_text = NoText
 
 pub some_same : {A : Type 0} {x y : A} → some x ≡ some y → x ≡ y
 some_same e = cc
@@ -60,8 +60,8 @@ gives_not_refuses e = let z : ◌≡◌ {A = ℕ} 0 1 = cc in absurd (omega arit
 -- a row's refusals are never for want of room
 pub never_room : {tb : Table} (r : Row) (x : Refusal) (n : ℕ) → RowRefused tb r x → x ≡ needs_room n → ⊥
 never_room r x n (long_row l) e = let z : ◌≡◌ {A = ℕ} 0 1 = cc in omega arith
-never_room r x n (not_a_cell_lem m l k u f) e = let z : ◌≡◌ {A = ℕ} 0 1 = cc in omega arith
-never_room r x n (no_text p h) e = let z : ◌≡◌ {A = ℕ} 0 1 = cc in omega arith
+never_room r x n (refused_not_a_cell m l k u f) e = let z : ◌≡◌ {A = ℕ} 0 1 = cc in omega arith
+never_room r x n (refused_no_text p h) e = let z : ◌≡◌ {A = ℕ} 0 1 = cc in omega arith
 never_room r x n (long_text t p h l) e = let z : ◌≡◌ {A = ℕ} 0 1 = cc in omega arith
 
 done_same : (m n : ℕ) → Done m ≡ Done n → m ≡ n
@@ -128,14 +128,14 @@ module _ (tb : Table) where
         there : (a : Answer) (new : List ℕ) → Read tb r lent a new → a ≡ NoText → ProperRow r × ((t : Text) → Reads tb r t → ⊥)
         there a new (done t g) e = let z : ◌≡◌ {A = ℕ} 0 1 = cc in absurd (omega arith)
         there a new (refused c x q h) e =
-            let z : x ≡ no_text_lem = some_same (sym q ∙ ap refusal_of e) in
+            let z : x ≡ no_text = some_same (sym q ∙ ap refusal_of e) in
             (answers.no_text_exactly tb held r (length lent)).0 (subst (λ (y : Refusal). RowAnswer tb r (length lent) (refuses y)) z h)
 
         back_again : (a : Answer) (new : List ℕ) → Read tb r lent a new → ProperRow r × ((t : Text) → Reads tb r t → ⊥) → a ≡ NoText
-        back_again a new (done t g) f = gives_not_refuses (one r lent (gives t) (refuses no_text_lem) g ((answers.no_text_exactly tb held r (length lent)).1 f))
+        back_again a new (done t g) f = gives_not_refuses (one r lent (gives t) (refuses no_text) g ((answers.no_text_exactly tb held r (length lent)).1 f))
         back_again a new (refused c x q h) f =
-            known_two c NoText x no_text_lem q refl
-            (refuses_same x no_text_lem (one r lent (refuses x) (refuses no_text_lem) h ((answers.no_text_exactly tb held r (length lent)).1 f)))
+            known_two c NoText x no_text q refl
+            (refuses_same x no_text (one r lent (refuses x) (refuses no_text) h ((answers.no_text_exactly tb held r (length lent)).1 f)))
 
 -- of the Castilian table
 pub one_outcome : OneOutcome castilian

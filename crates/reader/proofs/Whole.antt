@@ -17,7 +17,7 @@ use Rattle.rules.proofs.Finite.{nothing}
 use Rattle.rules.proofs.States.{Free}
 use Rattle.rules.proofs.Pieces.{Piece}
 use Rattle.rules.proofs.Reader.{walk, all_pieces, reads}
-use Rattle.rules.proofs.Profile.{Sane, shut, print_of_lem, printed, decode, pieces_of, OfText, of_text, reads_right}
+use Rattle.rules.proofs.Profile.{Sane, shut, print_of_pieces, printed, decode, pieces_of, OfText, of_text, reads_right}
 use Rattle.rules.proofs.Signs.{signs_join}
 use Rattle.rules.proofs.Castilian.{sane}
 use Rattle.pairs.proofs.Pairing.{none_open}
@@ -43,7 +43,7 @@ module _ (tb : Table) (held : Sane tb) (r : Row) where
       go : (x : Option (List Piece)) → pieces_in ≡ x → Reads tb r (print_of ss) × (signs_of tb (print_of ss) ≡ ss)
       go none q = nothing (sym (ap signs_by q) ∙ e)
       go (some ps) q =
-          let t : Text = print_of_lem held.shares ps in
+          let t : Text = print_of_pieces held.shares ps in
           let h : Reads tb r t = reads_right tb held r t (ap (printed held.shares) q) in
           let z : some (signs_of tb t) ≡ some ss = sym (signs_of_text t h) ∙ e in
           let s : signs_of tb t ≡ ss = cc in

@@ -4,7 +4,7 @@ use Rattle.std.specs.Prelude.{List, ◌≡◌, ℕ, length}
 use Rattle.std.proofs.Math.Option.{Option, none, some}
 use Rattle.rules.specs.Cells.{Text, Row}
 use Rattle.rules.specs.Sorts.{Table}
-use Rattle.rules.specs.Refusals.{Refusal, too_long_lem, needs_room, not_a_cell, no_text_lem, number_of, second_of}
+use Rattle.rules.specs.Refusals.{Refusal, too_long, needs_room, not_a_cell, no_text, number_of, second_of}
 use Rattle.rules.specs.Answers.{gives, refuses, RowAnswer}
 use Rattle.rows.specs.Laid.{laid}
 use Rattle.reader.specs.declared.Answer.{Answer}
@@ -13,9 +13,9 @@ use Rattle.reader.specs.declared.Answer.TheVariants.{Done, TooLong, NotACell, No
 -- the refusal that an answer is, by the paper's table; `Done` is none
 abbrev pub refusal_of : Answer → Option Refusal
 refusal_of (Done n) = none
-refusal_of (TooLong n) = some (too_long_lem n)
+refusal_of (TooLong n) = some (too_long n)
 refusal_of (NotACell n) = some (not_a_cell n)
-refusal_of NoText = some no_text_lem
+refusal_of NoText = some no_text
 refusal_of (NeedsRoom n) = some (needs_room n)
 
 -- "On success the answer is the count written": the number 0, which no refusal has, and the count; else the columns "No." and "Second number"

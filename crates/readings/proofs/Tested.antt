@@ -18,7 +18,7 @@ use Rattle.rules.proofs.States.{Mode}
 use Rattle.rules.proofs.Enumerations.{mode_number}
 use Rattle.rules.proofs.Machine.{step, at_rest, lead_of}
 use Rattle.rules.proofs.Pieces.{Piece, word}
-use Rattle.rules.proofs.Reader.{all_pieces, ways_of_lem, begins_as, look_of}
+use Rattle.rules.proofs.Reader.{all_pieces, ways_of, begins_as, look_of}
 use Rattle.entries.proofs.Keys.{among, keys_of}
 use Rattle.readings.specs.Modes.{mode_of, mode_count, spare}
 use Rattle.readings.specs.Acts as act
@@ -67,11 +67,11 @@ unfolding right_one begun cands
 right_at x = below (λ m. right_one m x (cands (mode_of m) (begun x))) mode_count
 
 pub all_right : T (below right_at sights)
-unfolding right_at right_one right_two begun cands bucket settle closes says reading_of by_word asked_by capital_by after_capital number_by percent_by two_of longer_by prefix_by opener_of closer_of words seconds deeds all_pieces castilian ways_of_lem begins_as look_of class is_digit_cell dots sign_cells own_cells lower_cells mark_of step at_rest lead_of
+unfolding right_at right_one right_two begun cands bucket settle closes says reading_of by_word asked_by capital_by after_capital number_by percent_by two_of longer_by prefix_by opener_of closer_of words seconds deeds all_pieces castilian ways_of begins_as look_of class is_digit_cell dots sign_cells own_cells lower_cells mark_of step at_rest lead_of
 all_right = tt
 
 pub all_sound : T (every (λ (s : Piece). sound_word (word s)) (all_pieces castilian))
-unfolding sound_word all_pieces castilian ways_of_lem class is_digit_cell dots sign_cells own_cells lower_cells
+unfolding sound_word all_pieces castilian ways_of class is_digit_cell dots sign_cells own_cells lower_cells
 all_sound = tt
 
 -- no piece has more code points than cells, but for the cell to spare before it; where one is to spare behind it, it has fewer
@@ -80,5 +80,5 @@ thrifty s m none = true
 thrifty s m (some n) = leb (length (points (lead_of s.0) s.1.0) + spare (mode_number n)) (length (word s) + spare m)
 
 pub all_thrifty : T (every (λ (s : Piece). below (λ m. thrifty s m (step (mode_of m) s.0 (class_at s.1))) mode_count) (all_pieces castilian))
-unfolding all_pieces castilian ways_of_lem class is_digit_cell dots sign_cells own_cells lower_cells step lead_of
+unfolding all_pieces castilian ways_of class is_digit_cell dots sign_cells own_cells lower_cells step lead_of
 all_thrifty = tt

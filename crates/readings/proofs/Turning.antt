@@ -25,7 +25,7 @@ use Rattle.rules.proofs.Enumerations.{modes, mode_number, mode_back_number}
 use Rattle.rules.proofs.Machine.{at_rest, lead_of, step}
 use Rattle.rules.proofs.Pieces.{Piece, word, wait_text, sign_of}
 use Rattle.rules.proofs.Signs.{every_at}
-use Rattle.rules.proofs.Reader.{In, every_in, ways_of_lem, look_of, match, match_split, goes, goes_some, find, find_some, pred_length, add, walk, all_pieces}
+use Rattle.rules.proofs.Reader.{In, every_in, ways_of, look_of, match, match_split, goes, goes_some, find, find_some, pred_length, add, walk, all_pieces}
 use Rattle.entries.specs.Chosen.{choose}
 use Rattle.entries.proofs.Keys.{among, keys_of, chosen_key}
 use Rattle.pairs.specs.Opened.{open_states, opens_of}
@@ -199,7 +199,7 @@ known_mark none = true
 known_mark (some a) = ltb a.0 kinds
 
 all_known : T (every (λ (s : Piece). known_mark (mark_of s.1.1)) (all_pieces castilian))
-unfolding all_pieces castilian ways_of_lem class is_digit_cell dots mark_of
+unfolding all_pieces castilian ways_of class is_digit_cell dots mark_of
 all_known = tt
 
 filled_word : (w : Row) → T (sound_word w) → 1 ≤ length w

@@ -2,8 +2,8 @@
 -- follow decide. The code's constants are these (src/lib.rt). Assumes nothing.
 use Rattle.std.specs.Prelude.{ℕ}
 
-abbrev pub no_sign_lem : ℕ
-no_sign_lem = 0
+abbrev pub no_sign : ℕ
+no_sign = 0
 
 abbrev pub as_usual : ℕ
 as_usual = 1

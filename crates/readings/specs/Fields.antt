@@ -2,7 +2,7 @@
 -- row. The words stand in `Words`. The code's constants are these (src/lib.rt). Assumes nothing.
 use Rattle.std.specs.Prelude.{Bool, cond, ◌||◌, ℕ, ◌+◌, ◌*◌, ◌/◌, ◌%◌, ◌^◌, eqb, leb, get_or}
 use Rattle.rules.specs.Cells.{Row, last_cell}
-use Rattle.readings.specs.Acts.{no_sign_lem}
+use Rattle.readings.specs.Acts.{no_sign}
 use Rattle.readings.specs.Deeds.{deeds}
 
 -- THE CLASSES of cells: all that the table asks of one (tools/readings.txt)
@@ -56,7 +56,7 @@ prefix = 15
 
 -- what the table says of a mode and a class
 abbrev pub deed_of : ℕ → ℕ → ℕ
-deed_of m c = get_or deeds (m % 16 * 16 + c % 16) no_sign_lem
+deed_of m c = get_or deeds (m % 16 * 16 + c % 16) no_sign
 
 -- WHERE THE FIELDS STAND
 abbrev pub usual_at : ℕ

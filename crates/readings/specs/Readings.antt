@@ -36,7 +36,7 @@ usual_by w = cond (eqb (point_in w) no_point) (a_mark (kind_in w) 1) (one (point
 -- FROM THE CELL ALONE, otherwise
 abbrev pub once_list : ℕ → List (ℕ × Reading)
 once_list w =
-    (act.no_sign_lem, nothing)
+    (act.no_sign, nothing)
     ∷ (act.digit, one (figure_in w) 1 mode.num)
     ∷ (act.digit_under, one (figure_in w) 1 mode.under)
     ∷ (act.capital_of_many, one (capital_in w) 1 mode.whole2)

@@ -2,7 +2,7 @@
 // What is read at a place, by the mode and the class of the cell: 16 rows of 16. Where there is no row or no class of a number,
 // there is no sign.
 ghost use Rattle.std.specs.Prelude.{◌≡◌, ◌<◌, get_or};
-ghost use Rattle.readings.specs.Acts.{no_sign_lem};
+ghost use Rattle.readings.specs.Acts.{no_sign};
 ghost use Rattle.readings.specs.Deeds.{deeds, deed_count};
 
 use crate::{
@@ -13,7 +13,7 @@ use crate::{
 // There is no other place in the table than these.
 pub fn deed_at(place: usize) -> usize
     requires { place < deed_count }
-    ensures { result ≡ get_or deeds place no_sign_lem }
+    ensures { result ≡ get_or deeds place no_sign }
 {
     match place {
         // FREE

@@ -8,10 +8,10 @@ use Rattle.rules.specs.Cells.{print}
 use Rattle.rules.specs.Refusals.{Refusal, number_of, second_of}
 use Rattle.printing.specs.Printed.{decimal_of}
 use Rattle.printing.proofs.Lengths.{decimal_few}
-use Rattle.replies.specs.Replies.{line_end, blank, ok_line, no_line_lem}
+use Rattle.replies.specs.Replies.{line_end, blank, ok_line, no_line}
 
 -- `no`, two blanks, two numbers and the end
-pub no_line_short : (x : Refusal) → length (no_line_lem x) ≤ 45
+pub no_line_short : (x : Refusal) → length (no_line x) ≤ 45
 no_line_short x =
     let n : List ℕ = decimal_of (number_of x) in
     let m : List ℕ = decimal_of (second_of x) in

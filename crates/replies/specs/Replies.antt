@@ -20,8 +20,8 @@ ok_line bytes = print "ok" ++ blank ∷ bytes ++ line_end ∷ []
 abbrev pub refusal_line : ℕ → ℕ → List ℕ
 refusal_line number second = print "no" ++ blank ∷ decimal_of number ++ blank ∷ decimal_of second ++ line_end ∷ []
 
-abbrev pub no_line_lem : Refusal → List ℕ
-no_line_lem x = refusal_line (number_of x) (second_of x)
+abbrev pub no_line : Refusal → List ℕ
+no_line x = refusal_line (number_of x) (second_of x)
 
 -- "prints `long`"
 abbrev pub long_line : List ℕ

@@ -16,8 +16,8 @@ use Rattle.rules.specs.Sorts.{Table}
 use Rattle.rules.specs.Normal.{normal_of}
 use Rattle.rules.specs.Places.{Cause, lacksSign, breaksPair, outside_form, shares_cells}
 use Rattle.rules.specs.Rows.{Reads, Accepted, Fault, FirstFault, Faultless, LeftOpen, Verdict, good, bad, verdict_of, signs_of}
-use Rattle.rules.specs.Refusals.{Refusal, too_long_lem, at_fault, needs_room, not_a_cell, no_text_lem, longest_text, longest_row, reported}
-use Rattle.rules.specs.Answers.{Answer, gives, refuses, PrintRefused, too_long, no_sign, pair_broken, left_open, outside_form_lem, shares_cells_lem, row_needs_room, PrintAnswer, print_refused, transcribed, ProperRow, RowRefused, long_row, not_a_cell_lem, no_text, long_text, ReadsAs, RowAnswer, row_refused, text_needs_room, read}
+use Rattle.rules.specs.Refusals.{Refusal, too_long, at_fault, needs_room, not_a_cell, no_text, longest_text, longest_row, reported}
+use Rattle.rules.specs.Answers.{Answer, gives, refuses, PrintRefused, refused_too_long, no_sign, pair_broken, left_open, refused_outside_form, refused_shares_cells, row_needs_room, PrintAnswer, print_refused, transcribed, ProperRow, RowRefused, long_row, refused_not_a_cell, refused_no_text, long_text, ReadsAs, RowAnswer, row_refused, text_needs_room, read}
 use Rattle.rules.specs.Screen.{sign_at, shown_by, StepAnswer, shows, stays, Stepped, stepped, stayed}
 use Rattle.rules.specs.Demands.{EveryPrintAnswered, EveryRowAnswered, EveryStepAnswered, OnePrintAnswer, OneRowAnswer, OneStepAnswer, RefusedExactly, ReadsBack, NoTextExactly, VerdictMeans}
 use Rattle.rules.proofs.Finite.{nothing, le_or_lt}
@@ -80,13 +80,13 @@ module _ (tb : Table) where
   unfoldable pub answer : Text → ℕ → Answer
   answer p room =
       choose (length (normal_of p)) longest_text (by_verdict (verdict_of tb (normal_of p)) (whole_row tb (normal_of p)) room)
-      (refuses (too_long_lem (reported (length (normal_of p)))))
+      (refuses (too_long (reported (length (normal_of p)))))
 
   refused_by : (t : Text) (room n : ℕ) (c : Cause) → length t ≤ longest_text → FirstFault tb t n c → PrintRefused tb t room (at_fault c n)
   refused_by t room n lacksSign l f = no_sign n l f
   refused_by t room n breaksPair l f = pair_broken n l f
-  refused_by t room n outside_form l f = outside_form_lem n l f
-  refused_by t room n shares_cells l f = shares_cells_lem n l f
+  refused_by t room n outside_form l f = refused_outside_form n l f
+  refused_by t room n shares_cells l f = refused_shares_cells n l f
 
   pub answered : (p : Text) (room : ℕ) → PrintAnswer tb p room (answer p room)
   unfolding answer
@@ -95,7 +95,7 @@ module _ (tb : Table) where
       (λ l. subst (PrintAnswer tb p room) (sym (choose_le (length t) longest_text (by_verdict (verdict_of tb t) (whole_row tb t) room) _ l))
       (short l (verdict_of tb t) (verdict_is_least tb t) refl))
       (λ l. subst (PrintAnswer tb p room) (sym (choose_lt (length t) longest_text (by_verdict (verdict_of tb t) (whole_row tb t) room) _ l))
-      (print_refused _ (too_long l)))
+      (print_refused _ (refused_too_long l)))
       (le_or_lt (length t) longest_text)
     where
       t : Text
@@ -129,13 +129,13 @@ module _ (tb : Table) where
 
   pub allowed_answer : (p : Text) (room : ℕ) (a : Answer) → PrintAnswer tb p room a → answer p room ≡ a
   unfolding answer
-  allowed_answer p room a (print_refused x (too_long l)) =
+  allowed_answer p room a (print_refused x (refused_too_long l)) =
       choose_lt (length (normal_of p)) longest_text (by_verdict (verdict_of tb (normal_of p)) (whole_row tb (normal_of p)) room) _ l
   allowed_answer p room a (print_refused x (no_sign n l f)) = short_answer p room _ l (first_verdict (normal_of p) n lacksSign f)
   allowed_answer p room a (print_refused x (pair_broken n l f)) = short_answer p room _ l (first_verdict (normal_of p) n breaksPair f)
   allowed_answer p room a (print_refused x (left_open l f o)) = short_answer p room _ l (open_verdict (normal_of p) f o)
-  allowed_answer p room a (print_refused x (outside_form_lem n l f)) = short_answer p room _ l (first_verdict (normal_of p) n outside_form f)
-  allowed_answer p room a (print_refused x (shares_cells_lem n l f)) = short_answer p room _ l (first_verdict (normal_of p) n shares_cells f)
+  allowed_answer p room a (print_refused x (refused_outside_form n l f)) = short_answer p room _ l (first_verdict (normal_of p) n outside_form f)
+  allowed_answer p room a (print_refused x (refused_shares_cells n l f)) = short_answer p room _ l (first_verdict (normal_of p) n shares_cells f)
   allowed_answer p room a (print_refused x (row_needs_room r l e k)) = read_answer p room r l e ∙ choose_lt (length r) room (gives r) _ k
   allowed_answer p room a (transcribed r l e k) = read_answer p room r l e ∙ choose_le (length r) room (gives r) _ k
 
@@ -152,12 +152,12 @@ module _ (tb : Table) where
       ⊎ ((Accepted tb (normal_of p) → ⊥) ⊎ ((r : Row) × Reads tb r (normal_of p) × (room < length r)))
 
   excused : (p : Text) (room : ℕ) (x : Refusal) → PrintRefused tb (normal_of p) room x → Excused p room
-  excused p room x (too_long l) = inl l
+  excused p room x (refused_too_long l) = inl l
   excused p room x (no_sign n l f) = inr (inl (λ h. ((row_exactly tb (normal_of p)).0 h).0 n lacksSign f.there))
   excused p room x (pair_broken n l f) = inr (inl (λ h. ((row_exactly tb (normal_of p)).0 h).0 n breaksPair f.there))
   excused p room x (left_open l f o) = inr (inl (λ h. ((row_exactly tb (normal_of p)).0 h).1 o))
-  excused p room x (outside_form_lem n l f) = inr (inl (λ h. ((row_exactly tb (normal_of p)).0 h).0 n outside_form f.there))
-  excused p room x (shares_cells_lem n l f) = inr (inl (λ h. ((row_exactly tb (normal_of p)).0 h).0 n shares_cells f.there))
+  excused p room x (refused_outside_form n l f) = inr (inl (λ h. ((row_exactly tb (normal_of p)).0 h).0 n outside_form f.there))
+  excused p room x (refused_shares_cells n l f) = inr (inl (λ h. ((row_exactly tb (normal_of p)).0 h).0 n shares_cells f.there))
   excused p room x (row_needs_room r l e k) = inr (inr (r, e, k))
 
   not_given : (p : Text) (room : ℕ) (r : Row) → Excused p room → PrintAnswer tb p room (gives r) → ⊥
@@ -237,8 +237,8 @@ high_some r n h = go (first_high r) refl (high_means r)
 module _ (tb : Table) (sane : Sane tb) where
   -- what a row comes to, whatever the room: a refusal, or the text that it reads as
   abbrev by_text : Option Text → Refusal ⊎ Text
-  by_text none = inl no_text_lem
-  by_text (some t) = choose (length t) longest_text (inr t) (inl (too_long_lem (reported (length t))))
+  by_text none = inl no_text
+  by_text (some t) = choose (length t) longest_text (inr t) (inl (too_long (reported (length t))))
 
   abbrev by_high : Option ℕ → Refusal ⊎ Text → Refusal ⊎ Text
   by_high none x = x
@@ -246,14 +246,14 @@ module _ (tb : Table) (sane : Sane tb) where
 
   unfoldable pub reading : Row → Refusal ⊎ Text
   reading r =
-      choose (length r) longest_row (by_high (first_high r) (by_text (decode tb sane r))) (inl (too_long_lem (reported (length r))))
+      choose (length r) longest_row (by_high (first_high r) (by_text (decode tb sane r))) (inl (too_long (reported (length r))))
 
   abbrev pub Means : Row → Refusal ⊎ Text → Type 0
   Means r (inl x) = RowRefused tb r x
   Means r (inr t) = ReadsAs tb r t
 
   text_means : (r : Row) → ProperRow r → (x : Option Text) → decode tb sane r ≡ x → Means r (by_text x)
-  text_means r p none e = no_text p (λ t h. nothing (sym e ∙ reads_back tb sane r t h))
+  text_means r p none e = refused_no_text p (λ t h. nothing (sym e ∙ reads_back tb sane r t h))
   text_means r p (some t) e =
       let h : Reads tb r t = reads_right tb sane r t e in
       ⊎_elim
@@ -271,7 +271,7 @@ module _ (tb : Table) (sane : Sane tb) where
     where
       go : length r ≤ longest_row → (x : Option ℕ) → HighMeans r x → Means r (by_high x (by_text (decode tb sane r)))
       go l none h = text_means r (record { short = l; cells = h }) (decode tb sane r) refl
-      go l (some n) h = not_a_cell_lem n l h.0 h.1 h.2
+      go l (some n) h = refused_not_a_cell n l h.0 h.1 h.2
 
   -- a row of cells that is short enough is read
   proper_reading : (r : Row) → ProperRow r → (x : Option Text) → decode tb sane r ≡ x → reading r ≡ by_text x
@@ -295,10 +295,10 @@ module _ (tb : Table) (sane : Sane tb) where
   pub refused_reading : (r : Row) (x : Refusal) → RowRefused tb r x → reading r ≡ inl x
   unfolding reading
   refused_reading r x (long_row l) = choose_lt (length r) longest_row (by_high (first_high r) (by_text (decode tb sane r))) _ l
-  refused_reading r x (not_a_cell_lem n l k u f) =
+  refused_reading r x (refused_not_a_cell n l k u f) =
       choose_le (length r) longest_row (by_high (first_high r) (by_text (decode tb sane r))) _ l
       ∙ ap (λ (y : Option ℕ). by_high y (by_text (decode tb sane r))) (high_some r n (k, u, f))
-  refused_reading r x (no_text p h) = proper_reading r p none (none_decoded r h)
+  refused_reading r x (refused_no_text p h) = proper_reading r p none (none_decoded r h)
   refused_reading r x (long_text t p h l) =
       proper_reading r p (some t) (reads_back tb sane r t h) ∙ choose_lt (length t) longest_text (inr t) _ l
 
@@ -338,12 +338,12 @@ module _ (tb : Table) (sane : Sane tb) where
   one_row_answer r room a b h k = sym (allowed_row_answer r room a h) ∙ allowed_row_answer r room b k
 
   pub no_text_exactly : NoTextExactly tb
-  no_text_exactly r room = (there, λ h. row_refused no_text_lem (no_text h.0 h.1))
+  no_text_exactly r room = (there, λ h. row_refused no_text (refused_no_text h.0 h.1))
     where
-      refused : RowRefused tb r no_text_lem → ProperRow r × ((t : Text) → Reads tb r t → ⊥)
-      refused (no_text p h) = (p, h)
+      refused : RowRefused tb r no_text → ProperRow r × ((t : Text) → Reads tb r t → ⊥)
+      refused (refused_no_text p h) = (p, h)
 
-      there : RowAnswer tb r room (refuses no_text_lem) → ProperRow r × ((t : Text) → Reads tb r t → ⊥)
+      there : RowAnswer tb r room (refuses no_text) → ProperRow r × ((t : Text) → Reads tb r t → ⊥)
       there (row_refused x h) = refused h
 
   -- DEMAND 2, the way back

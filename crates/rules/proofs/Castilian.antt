@@ -13,19 +13,19 @@ use Rattle.rules.proofs.Machine.{step, at_rest}
 use Rattle.rules.proofs.Pairs.{kinds_known}
 use Rattle.rules.proofs.Normal.{normal_codes}
 use Rattle.rules.proofs.Pieces.{proper_code}
-use Rattle.rules.proofs.Reader.{all_pieces, all_apart, all_begin, ways_of_lem, begins_as, sees, may, must, look_of, contrary, rivals, both_go, goes_both, diverge, apart, begins}
+use Rattle.rules.proofs.Reader.{all_pieces, all_apart, all_begin, ways_of, begins_as, sees, may, must, look_of, contrary, rivals, both_go, goes_both, diverge, apart, begins}
 use Rattle.rules.proofs.Profile.{Sane, distinct, proper_word}
 
 apart_holds : T (all_apart (all_pieces castilian))
-unfolding all_apart all_pieces castilian ways_of_lem begins_as sees may must look_of contrary rivals both_go goes_both diverge apart class dots is_digit_cell mark_of sign_cells own_cells lower_cells step at_rest
+unfolding all_apart all_pieces castilian ways_of begins_as sees may must look_of contrary rivals both_go goes_both diverge apart class dots is_digit_cell mark_of sign_cells own_cells lower_cells step at_rest
 apart_holds = tt
 
 begin_holds : T (all_begin (all_pieces castilian))
-unfolding all_begin begins all_pieces castilian ways_of_lem begins_as sees may must look_of class dots is_digit_cell sign_cells own_cells lower_cells step at_rest
+unfolding all_begin begins all_pieces castilian ways_of begins_as sees may must look_of class dots is_digit_cell sign_cells own_cells lower_cells step at_rest
 begin_holds = tt
 
 words_hold : T (every proper_word (all_pieces castilian))
-unfolding proper_word all_pieces castilian ways_of_lem class dots is_digit_cell sign_cells own_cells lower_cells
+unfolding proper_word all_pieces castilian ways_of class dots is_digit_cell sign_cells own_cells lower_cells
 words_hold = tt
 
 pub sane : Sane castilian

@@ -10,7 +10,7 @@ use Prim.Native.Nat.{ℕ}
 use native.Mathlib.Omega.{arith}
 use lib.Dec.{T, eqb, eqb→eq}
 use Rattle.rules.specs.Cells.{Text, Row}
-use Rattle.rules.specs.Sorts.{Sort, letter, digit, full_stop, comma, hyphen, dash, fractionBar, ordinal, pair_mark, percent, plain, no_sign_lem, Item, Class, aToJ, otherSmall, capital, one, otherDigit, aComma, aHyphen, aDash, masculine, feminine, aPercent, otherSign, unlisted, class, is_digit_cell}
+use Rattle.rules.specs.Sorts.{Sort, letter, digit, full_stop, comma, hyphen, dash, fractionBar, ordinal, pair_mark, percent, plain, no_sign, Item, Class, aToJ, otherSmall, capital, one, otherDigit, aComma, aHyphen, aDash, masculine, feminine, aPercent, otherSign, unlisted, class, is_digit_cell}
 use Rattle.rules.specs.Signs.{Way, bare, oneCapital, allCapitals, separated, firstDigit, firstLower, lower, denominator, ordinalMark, inside, sign_cells, Sign}
 use Rattle.rules.specs.Pairs.{Opens, mark_of, turn, fits, closed}
 use Rattle.rules.specs.Places.{class_at, breaksPair, Outcome, fault, silent, sign}
@@ -138,7 +138,7 @@ quiet p (ordinal b) f o e = refl
 quiet p (pair_mark k b w) f o e = let z : ◌≡◌ {A = ℕ} 0 1 = cc in absurd (omega arith)
 quiet p (percent w) f o e = refl
 quiet p (plain w) f o e = refl
-quiet p no_sign_lem f o e = refl
+quiet p no_sign f o e = refl
 
 pub ready_next : (p : Past) (c : Class) (f : Future) (x : Outcome) → Passes x → Hold (onward_by p c f x) → T (ready (after p c) f)
 unfolding onward_by
@@ -178,7 +178,7 @@ proper_code q c (ordinal b) = true
 proper_code q c (pair_mark k b w) = true
 proper_code q c (percent w) = true
 proper_code q c (plain w) = true
-proper_code q c no_sign_lem = true
+proper_code q c no_sign = true
 
 -- TEST: no class but those two is silent
 silent_class : Past → Class → Future → Bool
@@ -223,7 +223,7 @@ silent_item q p f c (ordinal false) e t = absurd (silent_lead p masculine f e re
 silent_item q p f c (pair_mark k b w) e t = absurd (silent_lead p otherSign f e refl)
 silent_item q p f c (percent w) e t = absurd (silent_lead p aPercent f e refl)
 silent_item q p f c (plain w) e t = absurd (silent_lead p otherSign f e refl)
-silent_item q p f c no_sign_lem e t = absurd (silent_lead p unlisted f e refl)
+silent_item q p f c no_sign e t = absurd (silent_lead p unlisted f e refl)
 
 -- the pieces' items are the text's, after what waits
 printed_put : (q : Bool) (p : Past) (i : Item) (f : Future) (x : Outcome) → rule p (class_at i) f ≡ x → Passes x → T (proper_code q i.0 i.1)

@@ -6,7 +6,7 @@ use mathlib.Core.Bool.{Bool, true, false, ◌&&◌, ◌||◌, not, cond, beq, tr
 use mathlib.Core.Option.{Option, none, some}
 use mathlib.Core.List.{List, [], ◌∷◌}
 use lib.Dec.{T, eqb}
-use Rattle.rules.specs.Sorts.{Sort, letter, digit, full_stop, comma, hyphen, dash, fractionBar, ordinal, pair_mark, percent, plain, no_sign_lem, Item, class, Class, aToJ, otherSmall, capital, one, otherDigit, aStop, aComma, aHyphen, aDash, aBar, masculine, feminine, aPercent, otherSign, unlisted, ◌is◌, is_letter, is_digit, is_stop, is_point, is_ordinal}
+use Rattle.rules.specs.Sorts.{Sort, letter, digit, full_stop, comma, hyphen, dash, fractionBar, ordinal, pair_mark, percent, plain, no_sign, Item, class, Class, aToJ, otherSmall, capital, one, otherDigit, aStop, aComma, aHyphen, aDash, aBar, masculine, feminine, aPercent, otherSign, unlisted, ◌is◌, is_letter, is_digit, is_stop, is_point, is_ordinal}
 use Rattle.rules.specs.Near.{Side, next, Near}
 use Rattle.rules.specs.Capitals.{run_goes_on, only_capitals}
 use Rattle.rules.specs.Numbers.{under_bar, number_point, number_goes_on, point_way}
@@ -16,7 +16,7 @@ use Rattle.rules.specs.Places.{Place, Faulty, without_sign, against_pair_rule, o
 use Rattle.rules.specs.Rows.{at, outcome_at, fits_at}
 use Rattle.rules.proofs.Finite.{false_of, nothing, every2, at2, every3, at3, beq_same, Hold, hold, holds}
 use Rattle.rules.proofs.States.{Past, free, past-on, past-bar, past_stop, past-dash, past-hyphen, past-feminine, Future, rest}
-use Rattle.rules.proofs.Sides.{◌was◌, in_run, in_mixed, in_denominator_lem, in_digits, at_point, caps_next, mixed_next, digit_next, mark_next, form_next, rule, look, after, future}
+use Rattle.rules.proofs.Sides.{◌was◌, in_run, in_mixed, is_in_denominator, in_digits, at_point, caps_next, mixed_next, digit_next, mark_next, form_next, rule, look, after, future}
 use Rattle.rules.proofs.Enumerations.{classes, pasts, futures, way_same, cause_number, cause_same}
 use Rattle.rules.proofs.Machine.{◌by◌}
 
@@ -40,7 +40,7 @@ view p f =
       after_dash = p was past-dash;
       after_point = at_point p;
       after_ordinal_stop = p was past_stop;
-      in_denominator = in_denominator_lem p || p was past-bar;
+      in_denominator = is_in_denominator p || p was past-bar;
       past_point = p was past-on || at_point p;
       run_before = in_run p;
       capitals_before = not (in_mixed p);
@@ -262,7 +262,7 @@ unmarked (ordinal b) e = refl
 unmarked (pair_mark k b w) e = absurd (true≢false e)
 unmarked (percent w) e = refl
 unmarked (plain w) e = refl
-unmarked no_sign_lem e = refl
+unmarked no_sign e = refl
 
 fits_unmarked : (o : Opens) (s : Sort) → class s is otherSign ≡ false → fits o s ≡ true
 unfolding fits

@@ -10,7 +10,7 @@ use Prim.Native.Nat.{ℕ, zero-le}
 use lib.Dec.{T, eqb, eqb→eq, eqb_refl, leb}
 use lib.ListN.{length}
 use Rattle.rules.specs.Cells.{Text, Row, last_cell}
-use Rattle.rules.specs.Sorts.{Sort, no_sign_lem, full_stop, fractionBar, Item, Table, Class, class}
+use Rattle.rules.specs.Sorts.{Sort, no_sign, full_stop, fractionBar, Item, Table, Class, class}
 use Rattle.rules.specs.Signs.{Way}
 use Rattle.rules.specs.Pairs.{Opens, turn, open_after}
 use Rattle.rules.specs.Places.{class_at, Outcome, fault, silent, sign}
@@ -27,7 +27,7 @@ use Rattle.rules.proofs.Rows.{verdict_is, whole_row, reads_good, good_reads}
 use Rattle.rules.proofs.Pairs.{kinds_known}
 use Rattle.rules.proofs.Normal.{normal_codes, good_is_normal}
 use Rattle.rules.proofs.Pieces.{Piece, word, words, due, lead, items, put, pieces, Good, good_of_verdict, verdict_of_good, Runs, row_words, runs, proper_code, Proper, printed_from, texts, sign_of, signs_is, signs_are_pieces}
-use Rattle.rules.proofs.Reader.{In, in_left, in_right, in_cases, every_in, walk, ways_of_lem, all_pieces, all_apart, all_begin, AllIn, reads, sound}
+use Rattle.rules.proofs.Reader.{In, in_left, in_right, in_cases, every_in, walk, ways_of, all_pieces, all_apart, all_begin, AllIn, reads, sound}
 
 -- TEST: a way that the machine takes is one of its class, and no class without a sign is taken
 is_there : Option Mode → Bool
@@ -40,10 +40,10 @@ has w (v ∷ vs) = w by v || has w vs
 
 listed : Mode → Way → Class → Bool
 unfolding is_there has
-listed m w c = not (is_there (step m w c)) || has w (ways_of_lem c)
+listed m w c = not (is_there (step m w c)) || has w (ways_of c)
 
 listed_all : T (every3 modes ways classes listed)
-unfolding listed step ways_of_lem at_rest
+unfolding listed step ways_of at_rest
 listed_all = tt
 
 has_in : (w : Way) (vs : List Way) → T (has w vs) → In w vs
@@ -55,10 +55,10 @@ has_in w (v ∷ vs) h = go (w by v) refl (has_in w vs) h
     go true e ih h = inl (way_same w v (subst T (sym e) tt))
     go false e ih h = inr (ih h)
 
-way_in : (m : Mode) (w : Way) (c : Class) {n : Mode} → step m w c ≡ some n → In w (ways_of_lem c)
+way_in : (m : Mode) (w : Way) (c : Class) {n : Mode} → step m w c ≡ some n → In w (ways_of c)
 unfolding listed is_there
 way_in m w c {n} e =
-    has_in w (ways_of_lem c) (subst (λ (x : Option Mode). T (not (is_there x) || has w (ways_of_lem c))) e (at3 modes ways classes listed listed_all m w c))
+    has_in w (ways_of c) (subst (λ (x : Option Mode). T (not (is_there x) || has w (ways_of c))) e (at3 modes ways classes listed listed_all m w c))
 
 -- the table's entries
 in_map : (i : Item) (w : Way) (vs : List Way) → In w vs → In {A = Piece} (w, i) (map (λ v. (v, i)) vs)
@@ -71,24 +71,24 @@ map_in i s [] h = absurd h
 map_in i s (v ∷ vs) (inl e) = ap (λ (x : Piece). x.1) e
 map_in i s (v ∷ vs) (inr h) = map_in i s vs h
 
-piece_in : (tb : Table) (i : Item) (w : Way) → In i tb → In w (ways_of_lem (class_at i)) → In {A = Piece} (w, i) (all_pieces tb)
+piece_in : (tb : Table) (i : Item) (w : Way) → In i tb → In w (ways_of (class_at i)) → In {A = Piece} (w, i) (all_pieces tb)
 unfolding all_pieces
 piece_in [] i w h k = h
 piece_in (j ∷ tb) i w (inl e) k =
-    in_left {A = Piece} (w, i) (map (λ v. (v, j)) (ways_of_lem (class_at j))) (all_pieces tb)
-    (subst (λ (x : Item). In {A = Piece} (w, i) (map (λ v. (v, x)) (ways_of_lem (class_at x)))) e (in_map i w (ways_of_lem (class_at i)) k))
-piece_in (j ∷ tb) i w (inr h) k = in_right {A = Piece} (w, i) (map (λ v. (v, j)) (ways_of_lem (class_at j))) (all_pieces tb) (piece_in tb i w h k)
+    in_left {A = Piece} (w, i) (map (λ v. (v, j)) (ways_of (class_at j))) (all_pieces tb)
+    (subst (λ (x : Item). In {A = Piece} (w, i) (map (λ v. (v, x)) (ways_of (class_at x)))) e (in_map i w (ways_of (class_at i)) k))
+piece_in (j ∷ tb) i w (inr h) k = in_right {A = Piece} (w, i) (map (λ v. (v, j)) (ways_of (class_at j))) (all_pieces tb) (piece_in tb i w h k)
 
 in_piece : (tb : Table) (s : Piece) → In s (all_pieces tb) → In s.1 tb
 unfolding all_pieces
 in_piece [] s h = h
 in_piece (j ∷ tb) s h =
-    ⊎_elim (λ k. inl (map_in j s (ways_of_lem (class_at j)) k)) (λ k. inr (in_piece tb s k))
-    (in_cases s (map (λ v. (v, j)) (ways_of_lem (class_at j))) (all_pieces tb) h)
+    ⊎_elim (λ k. inl (map_in j s (ways_of (class_at j)) k)) (λ k. inr (in_piece tb s k))
+    (in_cases s (map (λ v. (v, j)) (ways_of (class_at j))) (all_pieces tb) h)
 
 -- a code point's entry is in the table, or it has none
 abbrev Known : Table → Item → Type 0
-Known tb i = (i.1 ≡ no_sign_lem) ⊎ In i tb
+Known tb i = (i.1 ≡ no_sign) ⊎ In i tb
 
 known : (tb : Table) (c : ℕ) → Known tb (c, sort_in tb c)
 unfolding sort_in
@@ -151,12 +151,12 @@ pub record Sane (tb : Table) : Type 0 where
 abbrev pub shut : Opens
 shut = λ k. false
 
-unfoldable pub print_of_lem : Bool → List Piece → Text
-print_of_lem q ss = map (λ (i : Item). i.0) (items q ss)
+unfoldable pub print_of_pieces : Bool → List Piece → Text
+print_of_pieces q ss = map (λ (i : Item). i.0) (items q ss)
 
 abbrev pub printed : Bool → Option (List Piece) → Option Text
 printed q none = none
-printed q (some ss) = some (print_of_lem q ss)
+printed q (some ss) = some (print_of_pieces q ss)
 
 codes_of : (tb : Table) (t : Text) → map (λ (i : Item). i.0) (items_in tb t) ≡ t
 unfolding items_in item_in
@@ -203,11 +203,11 @@ module _ (tb : Table) (sane : Sane tb) where
     pub runs : Runs Free shut (pieces_of t)
     pub inside : AllIn (pieces_of t) (all_pieces tb)
     pub row : words (pieces_of t) ≡ r
-    pub print : print_of_lem sane.shares (pieces_of t) ≡ t
+    pub print : print_of_pieces sane.shares (pieces_of t) ≡ t
     pub signs : signs_of tb t ≡ map sign_of (pieces_of t)
 
   pub of_text : (r : Row) (t : Text) → Reads tb r t → OfText r t
-  unfolding verdict_of whole_row pieces_of ready mode_at waiting past open_after print_of_lem signs_of
+  unfolding verdict_of whole_row pieces_of ready mode_at waiting past open_after print_of_pieces signs_of
   of_text r t e =
       let a : List Item = items_in tb t in
       let g : Good free shut a = good_of_verdict free shut 0 a (sym (verdict_is [] 0 a) ∙ (reads_good tb r t e).0) in
@@ -265,8 +265,8 @@ module _ (tb : Table) (sane : Sane tb) where
       go false true = same_cons (the_stop, full_stop sane.shares) (i ∷ a) (ap (λ (x : Sort). (the_stop, x)) sane.has_stop) (same_cons i a e ih)
       go false false = same_cons i a e ih
 
-  same_items : (ss : List Piece) → AllIn ss (all_pieces tb) → items_in tb (print_of_lem sane.shares ss) ≡ items sane.shares ss
-  unfolding print_of_lem items AllIn recoded lead items_in
+  same_items : (ss : List Piece) → AllIn ss (all_pieces tb) → items_in tb (print_of_pieces sane.shares ss) ≡ items sane.shares ss
+  unfolding print_of_pieces items AllIn recoded lead items_in
   same_items [] h = refl
   same_items (s ∷ ss) h = same_due (lead_of s.0) s.1 (items sane.shares ss) (same_item s.1 (in_piece tb s h.0)) (same_items ss h.1)
 
@@ -280,7 +280,7 @@ module _ (tb : Table) (sane : Sane tb) where
       go (some ss) q e =
           let h = sound (all_pieces tb) sane.begin r Free shut 0 ss q in
           let b = texts sane.shares Free shut ss h.0 free refl refl in
-          let p : print_of_lem sane.shares ss ≡ t = cc in
+          let p : print_of_pieces sane.shares ss ≡ t = cc in
           let z : items_in tb t ≡ items sane.shares ss = ap (items_in tb) (sym p) ∙ same_items ss h.1 in
           let v : verdict_of tb t ≡ good =
           ap (verdict_from [] 0) z ∙ verdict_is [] 0 (items sane.shares ss) ∙ verdict_of_good free shut 0 (items sane.shares ss) b.0 in

@@ -164,26 +164,26 @@ walk tb m o zero (x ∷ r) =
     elim (find tb m o (x ∷ r)) [ none ↦ none | some p ↦ add p.0 (walk tb p.1 (turn p.0.1.1 o) (pred_length (word p.0)) r) ]
 
 -- the pieces of a table: each code point in each way that its class is written
-unfoldable pub ways_of_lem : Class → List Way
-ways_of_lem aToJ = bare ∷ separated ∷ []
-ways_of_lem otherSmall = bare ∷ []
-ways_of_lem capital = bare ∷ oneCapital ∷ allCapitals ∷ []
-ways_of_lem one = bare ∷ firstDigit ∷ firstLower ∷ lower ∷ denominator ∷ []
-ways_of_lem otherDigit = bare ∷ firstDigit ∷ firstLower ∷ lower ∷ denominator ∷ []
-ways_of_lem aStop = bare ∷ inside ∷ []
-ways_of_lem aComma = bare ∷ inside ∷ []
-ways_of_lem aHyphen = bare ∷ []
-ways_of_lem aDash = bare ∷ []
-ways_of_lem aBar = []
-ways_of_lem masculine = ordinalMark ∷ []
-ways_of_lem feminine = ordinalMark ∷ []
-ways_of_lem aPercent = bare ∷ []
-ways_of_lem otherSign = bare ∷ []
-ways_of_lem unlisted = []
+unfoldable pub ways_of : Class → List Way
+ways_of aToJ = bare ∷ separated ∷ []
+ways_of otherSmall = bare ∷ []
+ways_of capital = bare ∷ oneCapital ∷ allCapitals ∷ []
+ways_of one = bare ∷ firstDigit ∷ firstLower ∷ lower ∷ denominator ∷ []
+ways_of otherDigit = bare ∷ firstDigit ∷ firstLower ∷ lower ∷ denominator ∷ []
+ways_of aStop = bare ∷ inside ∷ []
+ways_of aComma = bare ∷ inside ∷ []
+ways_of aHyphen = bare ∷ []
+ways_of aDash = bare ∷ []
+ways_of aBar = []
+ways_of masculine = ordinalMark ∷ []
+ways_of feminine = ordinalMark ∷ []
+ways_of aPercent = bare ∷ []
+ways_of otherSign = bare ∷ []
+ways_of unlisted = []
 
 unfoldable pub all_pieces : List Item → List Piece
 all_pieces [] = []
-all_pieces (i ∷ is) = map (λ w. (w, i)) (ways_of_lem (class_at i)) ++ all_pieces is
+all_pieces (i ∷ is) = map (λ w. (w, i)) (ways_of (class_at i)) ++ all_pieces is
 
 -- TEST A: two pieces of the list never both fit
 unfoldable pub contrary : Look → Look → Bool

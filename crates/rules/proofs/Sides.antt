@@ -29,11 +29,11 @@ in_mixed p = p was mixed
 abbrev pub in_number : Past → Bool
 in_number p = p was plain-on || p was past-on
 
-abbrev pub in_denominator_lem : Past → Bool
-in_denominator_lem p = p was under_one || p was under
+abbrev pub is_in_denominator : Past → Bool
+is_in_denominator p = p was under_one || p was under
 
 abbrev pub in_digits : Past → Bool
-in_digits p = in_number p || in_denominator_lem p
+in_digits p = in_number p || is_in_denominator p
 
 -- directly after a point or comma of a number
 abbrev pub at_point : Past → Bool
@@ -80,15 +80,15 @@ look aPercent f = rest
 look otherSign f = rest
 look unlisted f = rest
 
-abbrev after_digit_lem : Past → Past → Past
-after_digit_lem p u = cond (p was past-bar) u (cond (in_denominator_lem p) under (cond (p was past-on || at_point p) past-on plain-on))
+abbrev past_after_digit : Past → Past → Past
+past_after_digit p u = cond (p was past-bar) u (cond (is_in_denominator p) under (cond (p was past-on || at_point p) past-on plain-on))
 
 unfoldable pub after : Past → Class → Past
 after p aToJ = mixed
 after p otherSmall = mixed
 after p capital = cond (in_mixed p) mixed (cond (in_run p) caps lone)
-after p one = after_digit_lem p under_one
-after p otherDigit = after_digit_lem p under
+after p one = past_after_digit p under_one
+after p otherDigit = past_after_digit p under
 after p aStop = cond (p was plain-on) past_stop (cond (p was past-on) past-point free)
 after p aComma = cond (in_number p) past-point free
 after p aHyphen = past-hyphen
@@ -103,7 +103,7 @@ after p unlisted = free
 abbrev rule_digit : Past → Future → Way
 rule_digit p f =
     cond (p was past-bar) denominator
-    (cond (p was past-on || in_denominator_lem p || at_point p) bare
+    (cond (p was past-on || is_in_denominator p || at_point p) bare
     (cond (p was plain-on) (cond (form_next f) lower bare) (cond (form_next f) firstLower firstDigit)))
 
 abbrev rule_point : Past → Future → Way

@@ -19,7 +19,7 @@ use Rattle.rules.proofs.Finite.{every, and_left, and_right, and_both}
 use Rattle.rules.proofs.Machine.{the_bar, the_stop, ◌by◌, lead_of}
 use Rattle.rules.proofs.Pieces.{Piece, word, words, due, lead, items, wait_text, sign_of}
 use Rattle.rules.proofs.Reader.{every_in, all_pieces, all_begin_in, begins, AllIn}
-use Rattle.rules.proofs.Profile.{Sane, proper_word, print_of_lem, OfText, of_text, pieces_of}
+use Rattle.rules.proofs.Profile.{Sane, proper_word, print_of_pieces, OfText, of_text, pieces_of}
 
 -- a code point that waits, as print
 abbrev code_points : List Item → Text
@@ -34,13 +34,13 @@ lead_print q w = go (w by denominator) (w by ordinalMark)
     go false true = refl
     go false false = refl
 
-print_signs : (q : Bool) (ss : List Piece) → print_of (map sign_of ss) ≡ print_of_lem q ss
-unfolding print_of_lem items
+print_signs : (q : Bool) (ss : List Piece) → print_of (map sign_of ss) ≡ print_of_pieces q ss
+unfolding print_of_pieces items
 print_signs q [] = refl
 print_signs q (s ∷ ss) =
     ap (λ (t : Text). (wait_text (lead_of s.0) ++ s.1.0 ∷ []) ++ t) (print_signs q ss)
-    ∙ append_snoc (wait_text (lead_of s.0)) s.1.0 (print_of_lem q ss)
-    ∙ ap (λ (w : Text). w ++ s.1.0 ∷ print_of_lem q ss) (sym (lead_print q s.0))
+    ∙ append_snoc (wait_text (lead_of s.0)) s.1.0 (print_of_pieces q ss)
+    ∙ ap (λ (w : Text). w ++ s.1.0 ∷ print_of_pieces q ss) (sym (lead_print q s.0))
     ∙ sym (map-append (λ (i : Item). i.0) (lead q s.0) (s.1 ∷ items q ss))
 
 cells_signs : (ss : List Piece) → cells_of (map sign_of ss) ≡ words ss
@@ -115,7 +115,7 @@ module _ (tb : Table) (sane : Sane tb) where
       )
 
   pub three_cells_each : ThreeCellsEach tb
-  unfolding print_of_lem
+  unfolding print_of_pieces
   three_cells_each t r e =
       let h : OfText tb sane r t = of_text tb sane r t e in
       let ss : List Piece = pieces_of tb sane t in

@@ -17,7 +17,7 @@ use Rattle.rules.specs.Demands.{Worked}
 use Rattle.rules.proofs.Sides.{look, after, rule, future, row_on}
 use Rattle.rules.proofs.Machine.{step, at_rest}
 use Rattle.rules.proofs.Rows.{whole_row}
-use Rattle.rules.proofs.Reader.{walk, find, match, goes, hit, add, all_pieces, ways_of_lem, begins_as, sees, look_of}
+use Rattle.rules.proofs.Reader.{walk, find, match, goes, hit, add, all_pieces, ways_of, begins_as, sees, look_of}
 use Rattle.rules.proofs.Profile.{decode}
 use Rattle.rules.proofs.Castilian.{sane}
 use Rattle.rules.proofs.Answers.{choose, answer, answered, first_high, row_answer, row_answered}
@@ -39,7 +39,7 @@ all_hold (l ∷ ls) e =
     ((computed l.0, computed_right l.0, a), all_hold ls b)
 
 lines_computed : map (λ (l : Line). shown_as (computed l.0)) lines ≡ map (λ (l : Line). l.1) lines
-unfolding lines answer row_answer choose number_of second_of normal_of first_high verdict_of dots closed fits turn mark_of decode open_after castilian sort_in item_in items_in walk find match goes hit add all_pieces ways_of_lem begins_as sees look_of step at_rest whole_row row_on outcome near class is_digit_cell rule sign_cells own_cells lower_cells future look after
+unfolding lines answer row_answer choose number_of second_of normal_of first_high verdict_of dots closed fits turn mark_of decode open_after castilian sort_in item_in items_in walk find match goes hit add all_pieces ways_of begins_as sees look_of step at_rest whole_row row_on outcome near class is_digit_cell rule sign_cells own_cells lower_cells future look after
 lines_computed = refl
 
 pub worked : Worked

@@ -8,7 +8,7 @@ use Rattle.rules.specs.Pairs.{open_after}
 use Rattle.rules.specs.Normal.{normal_of}
 use Rattle.rules.specs.Places.{Cause, breaksPair}
 use Rattle.rules.specs.Rows.{items_in, Reads, Accepted, Fault, FirstFault, Faultless, LeftOpen, Verdict, good, bad, verdict_of, signs_of}
-use Rattle.rules.specs.Refusals.{Refusal, no_text_lem, longest_text}
+use Rattle.rules.specs.Refusals.{Refusal, no_text, longest_text}
 use Rattle.rules.specs.Answers.{Answer, gives, refuses, PrintAnswer, ProperRow, ReadsAs, RowAnswer}
 use Rattle.rules.specs.Screen.{StepAnswer, shows, Stepped}
 use Rattle.rules.specs.Worked.{lines, AllHold}
@@ -57,7 +57,7 @@ GivesTheText tb = (r : Row) (t : Text) (room : ℕ) → ReadsAs tb r t → lengt
 
 -- "it says "no text" exactly when none of any length has the row"
 abbrev pub NoTextExactly : Table → Type 0
-NoTextExactly tb = (r : Row) (room : ℕ) → RowAnswer tb r room (refuses no_text_lem) ↔ (ProperRow r × ((t : Text) → Reads tb r t → ⊥))
+NoTextExactly tb = (r : Row) (room : ℕ) → RowAnswer tb r room (refuses no_text) ↔ (ProperRow r × ((t : Text) → Reads tb r t → ⊥))
 
 -- "The sixteen lines above are proved of the sign rules as a table under a single statement"
 abbrev pub Worked : Type 0

@@ -2,7 +2,7 @@
 -- a number more here and two entries of the table. Nothing here knows of any other rule. Assumes nothing.
 use Rattle.std.specs.Prelude.{Bool, true, false, ◌&&◌, not, cond, List, [], ◌∷◌, ℕ, zero, suc, eqb}
 use Rattle.std.proofs.Math.Option.{Option, none, some}
-use Rattle.rules.specs.Sorts.{Sort, letter, digit, full_stop, comma, hyphen, dash, fractionBar, ordinal, pair_mark, percent, plain, no_sign_lem, Item}
+use Rattle.rules.specs.Sorts.{Sort, letter, digit, full_stop, comma, hyphen, dash, fractionBar, ordinal, pair_mark, percent, plain, no_sign, Item}
 
 -- "The five kinds ¿?, ¡!, «», ‘’ and emphasis": 0 to 4, in this order
 abbrev pub kinds : ℕ
@@ -25,7 +25,7 @@ mark_of (ordinal b) = none
 mark_of (pair_mark k b w) = some (k, b)
 mark_of (percent w) = none
 mark_of (plain w) = none
-mark_of no_sign_lem = none
+mark_of no_sign = none
 
 -- "An opener stands only where its kind is closed, a closer only where it is open": from whether it is the opener and whether its kind is open
 abbrev pub may_stand : Bool → Bool → Bool

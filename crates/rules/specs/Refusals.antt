@@ -5,7 +5,7 @@ use Rattle.rules.specs.Places.{Cause, lacksSign, breaksPair, outside_form, share
 
 pub data Refusal : Type 0 where
   -- the text or the row is too long: that length
-  too_long_lem : ℕ → Refusal
+  too_long : ℕ → Refusal
   -- a place of the text is at fault: why, and the place
   at_fault : Cause → ℕ → Refusal
   -- the answer needs more room than lent: the room needed
@@ -13,26 +13,26 @@ pub data Refusal : Type 0 where
   -- a byte of the row is no cell: its place
   not_a_cell : ℕ → Refusal
   -- no text has the row
-  no_text_lem : Refusal
+  no_text : Refusal
 
 -- the column "No."
 unfoldable pub number_of : Refusal → ℕ
-number_of (too_long_lem n) = 1
+number_of (too_long n) = 1
 number_of (at_fault lacksSign n) = 2
 number_of (at_fault breaksPair n) = 3
 number_of (at_fault outside_form n) = 4
 number_of (at_fault shares_cells n) = 5
 number_of (needs_room n) = 6
 number_of (not_a_cell n) = 7
-number_of no_text_lem = 8
+number_of no_text = 8
 
 -- the column "Second number"
 unfoldable pub second_of : Refusal → ℕ
-second_of (too_long_lem n) = n
+second_of (too_long n) = n
 second_of (at_fault c n) = n
 second_of (needs_room n) = n
 second_of (not_a_cell n) = n
-second_of no_text_lem = 0
+second_of no_text = 0
 
 -- "normalised text above 4,096 code points"
 abbrev pub longest_text : ℕ

@@ -3,14 +3,14 @@
 use Rattle.std.specs.Prelude.{Bool, true, false, not, cond, List, [], ◌∷◌, ◌++◌, map, reverse, ◌≡◌, ℕ, suc, ◌<◌, eqb, T}
 use Rattle.std.proofs.Math.Option.{Option, none, some}
 use Rattle.rules.specs.Cells.{Text, Row}
-use Rattle.rules.specs.Sorts.{Sort, no_sign_lem, Item, Table}
+use Rattle.rules.specs.Sorts.{Sort, no_sign, Item, Table}
 use Rattle.rules.specs.Signs.{sign_cells, Sign}
 use Rattle.rules.specs.Pairs.{fits, open_after, closed}
 use Rattle.rules.specs.Places.{Place, place_from, near_of, class_of, Cause, breaksPair, Faulty, Outcome, fault, silent, sign, outcome}
 
 -- "any number not listed below" has no sign
 unfoldable pub sort_in : Table → ℕ → Sort
-sort_in [] c = no_sign_lem
+sort_in [] c = no_sign
 sort_in (i ∷ tb) c = elim (eqb i.0 c) [ true ↦ i.1 | false ↦ sort_in tb c ]
 
 unfoldable pub item_in : Table → ℕ → Item

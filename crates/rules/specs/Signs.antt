@@ -3,7 +3,7 @@
 -- Assumes nothing.
 use Rattle.std.specs.Prelude.{true, false, List, [], ◌∷◌, ◌++◌, ℕ, ◌+◌, ◌%◌, get_or}
 use Rattle.rules.specs.Cells.{Text, Row, dots, cells}
-use Rattle.rules.specs.Sorts.{Sort, letter, digit, full_stop, comma, hyphen, dash, fractionBar, ordinal, pair_mark, percent, plain, no_sign_lem, digit_dots}
+use Rattle.rules.specs.Sorts.{Sort, letter, digit, full_stop, comma, hyphen, dash, fractionBar, ordinal, pair_mark, percent, plain, no_sign, digit_dots}
 
 -- "A sign is the cells of one code point, with any 46-46, 46, 3456 or separating 5 before them. A code point without a cell goes with the sign
 -- after it": so `denominator` (after U+2044) and `ordinalMark` (after the full stop) are ways of their own.
@@ -37,7 +37,7 @@ own_cells (ordinal false) = cells (135 ∷ [])
 own_cells (pair_mark k b w) = w
 own_cells (percent w) = w
 own_cells (plain w) = w
-own_cells no_sign_lem = []
+own_cells no_sign = []
 
 -- the lower digit; nothing else is written low
 unfoldable pub lower_cells : Sort → Row
@@ -52,7 +52,7 @@ lower_cells (ordinal b) = []
 lower_cells (pair_mark k b w) = []
 lower_cells (percent w) = []
 lower_cells (plain w) = []
-lower_cells no_sign_lem = []
+lower_cells no_sign = []
 
 unfoldable pub sign_cells : Way → Sort → Row
 sign_cells bare s = own_cells s

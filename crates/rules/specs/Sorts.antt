@@ -22,7 +22,7 @@ pub data Sort : Type 0 where
   -- any other sign: its cells
   plain : Row → Sort
   -- "a code point with no sign"
-  no_sign_lem : Sort
+  no_sign : Sort
 
 -- a code point and its sort; a profile's table of them
 abbrev pub Item : Type 0
@@ -63,7 +63,7 @@ class (ordinal false) = masculine
 class (pair_mark k b w) = otherSign
 class (percent w) = aPercent
 class (plain w) = otherSign
-class no_sign_lem = unlisted
+class no_sign = unlisted
 
 -- classes told apart by a number for each
 abbrev pub class_number : Class → ℕ

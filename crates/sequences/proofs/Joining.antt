@@ -9,18 +9,18 @@ use lib.ListN.{length, get_or, drop, drop_of_length-le}
 use lib.Seq.{drop-cons}
 use borrow.Author.Tests.{le-leb, lt-leb}
 use Rattle.rules.proofs.Finite.{and_false}
-use Rattle.sequences.specs.Leads.{later_form, room_of_lem, Fitting, JoinedIs}
+use Rattle.sequences.specs.Leads.{later_form, room_of, Fitting, JoinedIs}
 use Rattle.sequences.specs.declared.Joined.{Joined}
 use Rattle.sequences.specs.declared.Joined.TheVariants as joins
 
 -- bits that leave room for one byte more
-pub room_for : (n v : ℕ) → n ≤ 3 → 0 < n → v < room_of_lem n → v < 0x8000
+pub room_for : (n v : ℕ) → n ≤ 3 → 0 < n → v < room_of n → v < 0x8000
 room_for zero v h k r = absurd (omega (arith, k))
 room_for (suc zero) v h k r = r
 room_for (suc (suc zero)) v h k r = omega (arith, r)
 room_for (suc (suc (suc n))) v h k r = omega (arith, r)
 
-room_on : (n v k : ℕ) → suc n ≤ 3 → v < room_of_lem (suc n) → k < 64 → v * 64 + k < room_of_lem n
+room_on : (n v k : ℕ) → suc n ≤ 3 → v < room_of (suc n) → k < 64 → v * 64 + k < room_of n
 room_on zero v k h r l = omega (arith, r, l)
 room_on (suc zero) v k h r l = omega (arith, r, l)
 room_on (suc (suc zero)) v k h r l = omega (arith, r, l)
@@ -66,7 +66,7 @@ module _ (bytes : List ℕ) (from later least most bits : ℕ) where
         mid_on l h =
             let f = m.fitting in
             let few : suc n ≤ 3 = omega (arith, f.few, more) in
-            let room : value < room_of_lem (suc n) = subst (λ (k : ℕ). value < room_of_lem k) more f.room in record {
+            let room : value < room_of (suc n) = subst (λ (k : ℕ). value < room_of k) more f.room in record {
               fitting = record {
                 few = omega (arith, few);
                 lowest = omega arith;

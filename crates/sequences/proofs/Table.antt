@@ -11,7 +11,7 @@ use borrow.Author.Tests.{le-leb, lt-leb}
 use Rattle.rules.proofs.Finite.{every, and_left, and_right, and_false}
 use Rattle.sequences.specs.Forms.{Form, forms, ◌to◌, begin, mark_of}
 use Rattle.sequences.specs.Points.{length_in}
-use Rattle.sequences.specs.Leads.{later_form, room_of_lem, Begun}
+use Rattle.sequences.specs.Leads.{later_form, room_of, Begun}
 
 -- all first bytes of a line are below n; all are above n
 abbrev pub ends_below : ℕ → Form → Bool
@@ -55,7 +55,7 @@ length_later (suc n) low high = ap suc (length_later n 0x80 0xbf)
 -- WHAT A LINE SAYS of its first bytes, from `from` to `last`. What is asked of the numbers alone is computed where this is cited.
 pub begun : (fs gs : List Form) (n low high mark from last b : ℕ) → forms ≡ fs ++ (from to last ∷ later_form n low high) ∷ gs
     → T (every (ends_below from) fs) → T (every (starts_above last) gs) → from ≤ b → b ≤ last
-    → T (leb n 3) → T (leb 0x80 low) → T (leb high 0xbf) → mark ≡ mark_of (suc n) → T (leb mark from) → T (ltb (last - mark) (room_of_lem n))
+    → T (leb n 3) → T (leb 0x80 low) → T (leb high 0xbf) → mark ≡ mark_of (suc n) → T (leb mark from) → T (ltb (last - mark) (room_of n))
     → Begun b n low high mark
 begun fs gs n low high mark from last b e t u l h few lowest highest marked above room = record {
   sequence = λ bs. ap (λ (x : List Form). length_in x (b ∷ bs)) e
@@ -67,6 +67,6 @@ begun fs gs n low high mark from last b e t u l h few lowest highest marked abov
     few = leb→le n 3 few;
     lowest = leb→le 0x80 low lowest;
     highest = leb→le high 0xbf highest;
-    room = omega (arith, ltb→lt (last - mark) (room_of_lem n) room, h, l);
+    room = omega (arith, ltb→lt (last - mark) (room_of n) room, h, l);
   };
 }

@@ -15,18 +15,18 @@ later_form zero low high = []
 later_form (suc n) low high = low to high ∷ later_form n 0x80 0xbf
 
 -- bits below this leave room for those of n later bytes
-abbrev pub room_of_lem : ℕ → ℕ
-room_of_lem zero = 0x200000
-room_of_lem (suc zero) = 0x8000
-room_of_lem (suc (suc zero)) = 0x200
-room_of_lem (suc (suc (suc n))) = 8
+abbrev pub room_of : ℕ → ℕ
+room_of zero = 0x200000
+room_of (suc zero) = 0x8000
+room_of (suc (suc zero)) = 0x200
+room_of (suc (suc (suc n))) = 8
 
 -- n later bytes, the first of them from `low` to `high`, behind `bits`
 pub record Fitting (n low high bits : ℕ) : Type 0 where
   pub few : n ≤ 3
   pub lowest : 0x80 ≤ low
   pub highest : high ≤ 0xbf
-  pub room : bits < room_of_lem n
+  pub room : bits < room_of n
 
 -- WHAT A FIRST BYTE SAYS
 pub record Begun (b n low high mark : ℕ) : Type 0 where

@@ -335,7 +335,7 @@ module _ (row : Row) (at m o w : ℕ) (e : w ≡ word_of (cell_of row at)) where
         ∙ ap (λ (n : ℕ). step_of at o (choose (once_list w) n (asked_by m n w (cell_of row (at + 1)) (cell_of row (at + 2))))) told
         ∙ sym (rw u) ∙ by_word_lem
 
-    pub told_none : d ≡ act.no_sign_lem → variant.Nothing ≡ step_at row at m o
+    pub told_none : d ≡ act.no_sign → variant.Nothing ≡ step_at row at m o
     told_none q = by_deed reading.nothing (rw q)
 
     pub told_digit : d ≡ act.digit → (p : ℕ) → p ≡ figure_in w → variant.Sign no_point p (at + 1) mode.num o ≡ step_at row at m o

@@ -16,8 +16,8 @@ use Rattle.rules.specs.Places.{lacksSign, breaksPair, outside_form, shares_cells
 use Rattle.rules.specs.Pairs.{open_after, closed_below, closed}
 use Rattle.rules.specs.Rows.{Verdict, good, bad, verdict_of, items_in, row_from, row_of}
 use Rattle.rules.specs.Normal.{normal_of, normal_after}
-use Rattle.rules.specs.Refusals.{too_long_lem, at_fault, needs_room, longest_text, reported}
-use Rattle.rules.specs.Answers.{gives, refuses, PrintAnswer, print_refused, transcribed, too_long}
+use Rattle.rules.specs.Refusals.{too_long, at_fault, needs_room, longest_text, reported}
+use Rattle.rules.specs.Answers.{gives, refuses, PrintAnswer, print_refused, transcribed, refused_too_long}
 use Rattle.rules.proofs.Finite.{le_or_lt}
 use Rattle.rules.proofs.Rows.{whole_row}
 use Rattle.rules.proofs.Answers.{choose_le, choose_lt, by_verdict, answered, short_answer}
@@ -95,8 +95,8 @@ module _ (tb : Table) (p : Text) (lent : List ℕ) where
 
   pub promised_long : (n : ℕ) → longest_text < length (normal_of p) → n ≡ reported (length (normal_of p)) → Transcribed tb p lent (TooLong n) lent
   promised_long n l e =
-      refused (TooLong n) (too_long_lem n) refl
-      (subst (λ (k : ℕ). PrintAnswer tb p (length lent) (refuses (too_long_lem k))) (sym e) (print_refused (too_long_lem (reported (length (normal_of p)))) (too_long l)))
+      refused (TooLong n) (too_long n) refl
+      (subst (λ (k : ℕ). PrintAnswer tb p (length lent) (refuses (too_long k))) (sym e) (print_refused (too_long (reported (length (normal_of p)))) (refused_too_long l)))
 
 -- an empty print has the empty row
 pub promised_empty : (tb : Table) (p : Text) (lent : List ℕ) → length p ≡ 0 → Transcribed tb p lent (Done 0) lent

@@ -13,7 +13,7 @@ use Rattle.rules.specs.Sorts.{Table}
 use Rattle.rules.specs.Places.{lacksSign, breaksPair, outside_form, shares_cells}
 use Rattle.rules.specs.Normal.{normal_of}
 use Rattle.rules.specs.Rows.{Reads, Accepted}
-use Rattle.rules.specs.Refusals.{Refusal, too_long_lem, at_fault, needs_room, not_a_cell, no_text_lem, longest_text}
+use Rattle.rules.specs.Refusals.{Refusal, too_long, at_fault, needs_room, not_a_cell, no_text, longest_text}
 use Rattle.rules.specs.Answers as rules
 use Rattle.rules.specs.Answers.{gives, refuses, PrintAnswer, transcribed, RowAnswer}
 use Rattle.rules.specs.Castilian.{castilian}
@@ -30,14 +30,14 @@ use Rattle.transcriber.specs.Claims.{OneOutcome, Refuses, RefusedExactly, CountI
 
 -- an answer is known by its refusal
 back : Refusal → Answer
-back (too_long_lem n) = TooLong n
+back (too_long n) = TooLong n
 back (at_fault lacksSign n) = NoSign n
 back (at_fault breaksPair n) = PairBroken n
 back (at_fault outside_form n) = OutsideForm n
 back (at_fault shares_cells n) = SharesCells n
 back (needs_room n) = NeedsRoom n
 back (not_a_cell n) = Done n
-back no_text_lem = Done 0
+back no_text = Done 0
 
 some_same : {A : Type 0} {x y : A} → some x ≡ some y → x ≡ y
 some_same e = cc

@@ -8,7 +8,7 @@ use Prim.Native.Nat.{ℕ, ◌+◌, ◌-◌, ◌≤◌, ◌<◌}
 use native.Mathlib.Omega.{arith}
 use lib.Dec.{T, eqb, leb, ltb, eqb→eq, leb→le, ltb→lt}
 use borrow.Author.Tests.{le-leb, lt-leb, le-ltb, lt-ltb}
-use Rattle.rules.specs.Sorts.{Sort, no_sign_lem, Item, Table, Class, unlisted, class}
+use Rattle.rules.specs.Sorts.{Sort, no_sign, Item, Table, Class, unlisted, class}
 use Rattle.rules.specs.Rows.{sort_in}
 use Rattle.rules.proofs.Finite.{and_false, below, at_below, every, and_left, and_right, beq_same}
 use Rattle.entries.proofs.Keys.{among, hit}
@@ -67,7 +67,7 @@ module _ (tb : Table) (g : Class → Bool) (ks : List ℕ) (m n : ℕ)
   known c =
       ⊎_elim (λ h. beq_same (g (class (sort_in tb c))) (told ks m n c) h) none (hit (λ k s. beq (g (class s)) (told ks m n k)) tb agree c)
     where
-      none : sort_in tb c ≡ no_sign_lem → g (class (sort_in tb c)) ≡ told ks m n c
+      none : sort_in tb c ≡ no_sign → g (class (sort_in tb c)) ≡ told ks m n c
       none q = go (told ks m n c) refl
         where
           without : g (class (sort_in tb c)) ≡ false

@@ -17,12 +17,12 @@ use Rattle.normal.proofs.copy.Statement.{statement}
 use Rattle.normal.proofs.copy.Tie as tie
 
 abbrev invariant-loop : tie.invariant-loop
-invariant-loop print text₀ after-digit₀ n₀ i₀ text after_digit_lem n i =
-    (i ≤ length print) × (length text ≡ length text₀) × (n + length (normal_after after_digit_lem (drop i print)) ≡ length (normal_of print))
-    × (take n text ++ laid (normal_after after_digit_lem (drop i print)) (drop n text) ≡ laid (normal_of print) text₀)
+invariant-loop print text₀ after-digit₀ n₀ i₀ text after_digit n i =
+    (i ≤ length print) × (length text ≡ length text₀) × (n + length (normal_after after_digit (drop i print)) ≡ length (normal_of print))
+    × (take n text ++ laid (normal_after after_digit (drop i print)) (drop n text) ≡ laid (normal_of print) text₀)
 
 abbrev decreases-loop : tie.decreases-loop
-decreases-loop print text₀ after-digit₀ n₀ i₀ text after_digit_lem n i = length print - i
+decreases-loop print text₀ after-digit₀ n₀ i₀ text after_digit n i = length print - i
 
 -- within a turn, once a part of the text is lent on
 abbrev K : Type 0
@@ -35,13 +35,13 @@ abbrev print : K → Text
 print c = (L c).before.before.before.args.print.now
 
 abbrev points : K → Text
-points c = becomes (L c).loop.after_digit_lem (get_or (print c) (L c).loop.i 0)
+points c = becomes (L c).loop.after_digit (get_or (print c) (L c).loop.i 0)
 
 abbrev rest : K → Text
 rest c = normal_after (is_digit_point (get_or (print c) (L c).loop.i 0)) (drop ((L c).loop.i + 1) (print c))
 
-row_is : (c : K) → normal_after (L c).loop.after_digit_lem (drop (L c).loop.i (print c)) ≡ points c ++ rest c
-row_is c = normal_turn (print c) (L c).loop.i (L c).loop.after_digit_lem c.before.before.loop-test.true
+row_is : (c : K) → normal_after (L c).loop.after_digit (drop (L c).loop.i (print c)) ≡ points c ++ rest c
+row_is c = normal_turn (print c) (L c).loop.i (L c).loop.after_digit c.before.before.loop-test.true
 
 room : (c : K) → (L c).loop.n + length (points c ++ rest c) ≤ length (L c).loop.text
 room c = rw (← row_is c) (omega (arith, (L c).loop.invariant, (L c).before.before.before.requires))
@@ -106,7 +106,7 @@ returns c =
     let l = c.before.loop in
     let a = c.before.before.before.before.args in
     turn_end l.text a.text.now l.n _ (normal_of a.print.now)
-    (normal_end a.print.now l.i l.after_digit_lem c.loop-test.false) l.invariant.2 l.invariant.3
+    (normal_end a.print.now l.i l.after_digit c.loop-test.false) l.invariant.2 l.invariant.3
 
 pub copy_spec : {M : Type 1} → statement M
 copy_spec =

@@ -15,23 +15,23 @@ use Rattle.normal.proofs.put_points.Statement.{statement}
 use Rattle.normal.proofs.put_points.Tie as tie
 
 abbrev points : tie.Start → Text
-points s = becomes s.args.after_digit_lem s.args.point
+points s = becomes s.args.after_digit s.args.point
 
 -- what they are where a full stop comes before, at …, and at all else
 two-are : (c : tie.Then1) → points c.before.before.before ≡ code "." ∷ c.before.before.before.args.point ∷ []
 two-are c =
     let a = c.before.before.before.args in
-    stop_before a.after_digit_lem a.point _ c.before.gets-stop.ensures c.if1.true
+    stop_before a.after_digit a.point _ c.before.gets-stop.ensures c.if1.true
 
 three-are : (c : tie.Then2) → points c.before.before.before.before ≡ print "..."
 three-are c =
     let a = c.before.before.before.before.args in
-    three_stops a.after_digit_lem a.point _ c.before.before.gets-stop.ensures c.before.if1.false c.if2.true
+    three_stops a.after_digit a.point _ c.before.before.gets-stop.ensures c.before.if1.false c.if2.true
 
 one-is : (c : tie.After-replacement) → points c.before.before.before.before.before ≡ c.replacement.result ∷ []
 one-is c =
     let a = c.before.before.before.before.before.args in
-    no_stop a.after_digit_lem a.point _ c.before.before.before.gets-stop.ensures c.before.before.if1.false ∙ c.replacement.ensures
+    no_stop a.after_digit a.point _ c.before.before.before.gets-stop.ensures c.before.before.if1.false ∙ c.replacement.ensures
 
 gets-stop-requires : tie.Need-gets-stop-requires
 gets-stop-requires c κs = search rules

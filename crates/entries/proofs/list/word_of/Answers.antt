@@ -7,7 +7,7 @@ use mathlib.Core.List.{List, [], ◌∷◌}
 use Prim.Native.Nat.{ℕ}
 use Rattle.rules.specs.Castilian.{castilian}
 use Rattle.rules.specs.Cells.{dots}
-use Rattle.rules.specs.Sorts.{no_sign_lem, class, is_digit_cell}
+use Rattle.rules.specs.Sorts.{no_sign, class, is_digit_cell}
 use Rattle.rules.specs.Signs.{own_cells, lower_cells}
 use Rattle.rules.specs.Pairs.{mark_of}
 use Rattle.rules.specs.Rows.{sort_in}
@@ -36,7 +36,7 @@ far =
 abbrev listed : ℕ → Bool
 listed k = among low k || among far k
 
-unlisted : (c : ℕ) → listed c ≡ false → word no_sign_lem ≡ entry_of castilian (one_for c)
+unlisted : (c : ℕ) → listed c ≡ false → word no_sign ≡ entry_of castilian (one_for c)
 unfolding low far one_for entry_of word then_of usuals_of usual_states bits mark_number sign_of sort_in castilian class is_digit_cell own_cells lower_cells mark_of dots
 unlisted c e = none_of listed c tt tt e
 

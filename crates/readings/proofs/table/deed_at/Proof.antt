@@ -6,7 +6,7 @@ use mathlib.Core.List.{List, [], ◌∷◌}
 use Prim.Native.Nat.{ℕ}
 use lib.ListN.{get_or}
 use Rattle.entries.proofs.Keys.{rest_none}
-use Rattle.readings.specs.Acts.{no_sign_lem}
+use Rattle.readings.specs.Acts.{no_sign}
 use Rattle.readings.specs.Deeds.{deeds}
 use Rattle.entries.proofs.Places.{upto, only_last}
 use Rattle.readings.proofs.table.deed_at.Statement.{statement}
@@ -14,7 +14,7 @@ use Rattle.readings.proofs.table.deed_at.Tie as tie
 
 -- what the table has at a place
 abbrev entry : ℕ → ℕ
-entry n = get_or deeds n no_sign_lem
+entry n = get_or deeds n no_sign
 
 other : tie.Need-returns-256
 unfolding deeds upto
