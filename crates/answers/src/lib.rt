@@ -1,5 +1,7 @@
 // What the line programs `transcribe` and `read` print for a line (paper 01, "The line program"): from the line's bytes to the bytes of the printed line, its end among them, in
 // a slice that the caller lends. (What `steps` prints: `proofing`.)
+#![tactic(auto)]
+
 ghost use Rattle.std.specs.Prelude.{◌≤◌, length};
 ghost use Rattle.answers.specs.Lines.{TranscribesLine, ReadsLine};
 

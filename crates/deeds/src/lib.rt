@@ -1,6 +1,8 @@
 // What is done at a place of a text, by its state and the class of its code point, as a table (`table`); and the ways of writing, the deeds, the questions
 // and the faults, by name. A question is decided by what follows: crates/turns.
 // A new state or class is added in tools/deeds.txt; a new deed is a constant here and in specs/Acts.antt, and a line of tools/deeds.txt.
+#![tactic(auto)]
+
 ghost use Rattle.std.specs.Prelude.{◌≡◌};
 ghost use Rattle.deeds.specs.Stages.{deed_of};
 

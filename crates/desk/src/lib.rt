@@ -1,4 +1,6 @@
 // The boundary: what C and Rust link (include/omdurgash.h). Numbers and slices only; each function is thin over a proved one.
+#![tactic(auto)]
+
 ghost use Rattle.std.specs.Prelude.{◌≡◌};
 ghost use Rattle.rules.specs.Castilian.{castilian};
 ghost use Rattle.desk.specs.Shows.{shown_of, Shows, read_of, ShowsRead, points_of, still_of, sign_of, ShowsSign};

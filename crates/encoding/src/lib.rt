@@ -1,4 +1,6 @@
 // The bytes of a code point in UTF-8 (Unicode, table 3-6).
+#![tactic(auto)]
+
 ghost use Rattle.std.specs.Prelude.{◌≡◌, ◌+◌, ◌%◌, ◌≤◌, ◌<◌, set};
 ghost use Rattle.encoding.specs.Encoding.{is_scalar, bytes_of, Encoded, Wrote};
 

@@ -1,6 +1,8 @@
 // What a code point is to the transcriber: one word of named fields, found by one look-up (src/list.rt).
 // Its sign, the cells that it has by itself, is a word too (src/sign.rt).
 // A new field is a constant here and in specs/Entries.antt; a new state is one here and in specs/States.antt, and a row of the crate `deeds`.
+#![tactic(auto)]
+
 ghost use Rattle.std.specs.Prelude.{◌≡◌};
 ghost use Rattle.rules.specs.Castilian.{castilian};
 ghost use Rattle.rules.proofs.Plain.{one_for};

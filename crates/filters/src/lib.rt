@@ -1,5 +1,7 @@
 // What the line programs have in common: standard input is read by chunks, each line is answered once its end has come, and each answer is written at once. The
 // memory does not grow with the input. What a line is stands in `lines`, what is printed for it in `programs`.
+#![tactic(auto)]
+
 ghost use Rattle.filters.specs.Rooms.{Rooms};
 
 use libc::{STDIN_FILENO, STDOUT_FILENO};

@@ -1,4 +1,6 @@
 // The three line programs by name: how long a line each takes, and how much room is lent.
+#![tactic(auto)]
+
 ghost use Rattle.std.specs.Prelude.{◌≡◌, ◌≤◌};
 ghost use Rattle.limits.specs.Limits.{longest_row_line, longest_line};
 

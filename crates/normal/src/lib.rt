@@ -1,6 +1,8 @@
 // Normalised print (paper 01, "Normalised print"): its length, and a normalised copy.
 // A new replacement by one code point is a constant and an arm of `replacement` here, in the order of the list, and a line of
 // crates/rules/specs/Normal.antt. Only … becomes more than one: `ELLIPSIS_ADDS` and `put_points` say so.
+#![tactic(auto)]
+
 ghost use Rattle.std.specs.Prelude.{◌≡◌, ◌&&◌, [], ◌∷◌, ◌≤◌, length};
 ghost use Rattle.rows.specs.Laid.{laid};
 ghost use Rattle.rules.specs.Normal.{replacements, replaced_by, is_digit_point, is_ordinal_point, becomes, normal_of};

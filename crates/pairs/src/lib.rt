@@ -1,5 +1,7 @@
 // The pair rule over bits: which kinds are open is a number, a bit for each kind (specs/Opened.antt). What it says for a text and for a row is
 // the same, so the transcriber and the reader both go by it. A new kind is a number more in crates/rules/specs/Pairs.antt, and nothing here.
+#![tactic(auto)]
+
 ghost use Rattle.std.specs.Prelude.{◌≡◌, ◌<◌};
 ghost use Rattle.rules.specs.Pairs.{kinds};
 ghost use Rattle.entries.specs.Entries.{marks};

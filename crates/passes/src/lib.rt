@@ -1,6 +1,8 @@
 // A text to cells, in two passes: `draw` finds the sign of each code point and counts the cells, or finds the first refusal; `writing::write` writes the signs. So
 // nothing is written before all is known to fit, and no code point is looked up twice. “ ” ‹ › are looked up as what they become, « » ‘ ’ (`plainly`).
 // `transcribe_normal` is what other crates call; what the functions promise is specs/Passes.antt.
+#![tactic(auto)]
+
 ghost use Rattle.std.specs.Prelude.{◌≡◌, ◌≤◌, ◌<◌, ◌*◌, length, take};
 ghost use Rattle.rules.specs.Castilian.{castilian};
 ghost use Rattle.rules.specs.Refusals.{longest_text};

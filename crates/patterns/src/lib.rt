@@ -1,4 +1,6 @@
 // The row that a line of characters shows: the way back from "one character U+2800 plus the cell for each cell".
+#![tactic(auto)]
+
 ghost use Rattle.std.specs.Prelude.{map, ◌≡◌, ◌≤◌, length};
 ghost use Rattle.rows.specs.Laid.{laid};
 ghost use Rattle.patterns.specs.Patterns.{byte_of, ShowsRow};

@@ -1,5 +1,7 @@
 // Bytes at a place of a slice that is lent: numbers, code points, cells. Where there is no room for a byte it is left out, and the place stays; a caller that lends enough room
 // has all of it printed (specs/Printed.antt).
+#![tactic(auto)]
+
 ghost use Rattle.std.specs.Prelude.{[], ◌∷◌, ◌≡◌, ◌+◌};
 ghost use Rattle.encoding.specs.Encoding.{encoded_of};
 ghost use Rattle.printing.specs.Printed.{decimal_of, bytes_of_text, characters_of, Prints};

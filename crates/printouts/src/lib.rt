@@ -1,4 +1,6 @@
 // What is printed of the two numbers that the desk shows (paper 01, "The line program"): of 0 and a count, `ok` with the row or the text; of a refusal's numbers, `no` with both.
+#![tactic(auto)]
+
 ghost use Rattle.std.specs.Prelude.{◌≡◌, ◌≤◌, length};
 ghost use Rattle.printing.specs.Printed.{Prints};
 ghost use Rattle.printouts.specs.Lines.{row_reply, text_reply};

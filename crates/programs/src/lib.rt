@@ -1,5 +1,7 @@
 // The three line programs: what each prints for a line. How long a line each takes and what it lends stands in `limits`, what an input is cut into in `lines`; reading and
 // writing stand in `filters`.
+#![tactic(auto)]
+
 ghost use Rattle.std.specs.Prelude.{◌≡◌, ◌≤◌, length};
 ghost use Rattle.limits.specs.Limits.{longest_row_line, longest_line, room_for_text, most_bytes};
 ghost use Rattle.programs.specs.Answers.{AnswersLine};

@@ -1,4 +1,6 @@
 // What the line program `steps` prints for a line: the proofing screen on paper. Its signs are printed in `sign_lines`.
+#![tactic(auto)]
+
 ghost use Rattle.std.specs.Prelude.{◌≤◌, length};
 ghost use Rattle.proofing.specs.Steps.{StepsLine};
 

@@ -2,6 +2,8 @@
 // One loop walks the row sign by sign (crates/walks). Between two signs it knows a mode and which pairs are open; both follow from the cells before, and neither is kept
 // from one call to the next. The row is walked once. `read` has a draft written, a text of its own, and copies it to the
 // lent text when all is known to fit: so nothing is written before. What a row of one cell has is looked up.
+#![tactic(auto)]
+
 ghost use Rattle.std.specs.Prelude.{◌&&◌, ◌⊎◌, ◌≡◌, ℕ, ◌≤◌, ◌<◌, eqb, length, get_or};
 ghost use Rattle.rules.specs.Cells.{Text};
 ghost use Rattle.rules.specs.Castilian.{castilian};

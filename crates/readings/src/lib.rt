@@ -3,6 +3,8 @@
 // A new sign is a line of crates/rules/specs/Castilian.antt, printed again; a new mode, deed or class is added in tools/readings.txt, and as a constant here
 // and in specs/, and a mode besides where it is said what a capital leaves in each (`capital_modes` of specs/Readings, AFTER_CAPITAL of crates/signs); a new pair
 // kind is also an arm of `opener_of` and of `closer_of`, and one whose marks have two cells, as ‘ and ’ have, an arm of `prefixed` of crates/signs.
+#![tactic(auto)]
+
 ghost use Rattle.std.specs.Prelude.{◌≡◌};
 ghost use Rattle.readings.specs.Fields.{class_in, point_in, capital_in, figure_in, lower_in, kind_in, then_in, deed_of};
 ghost use Rattle.readings.specs.Readings.{opener_of, closer_of};

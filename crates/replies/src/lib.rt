@@ -1,5 +1,7 @@
 // The lines that the programs print (paper 01, "The line program"): `ok` with a row or with a text, `no` with the numbers of a refusal, `long`. Each is printed at the front of a slice
 // that is lent, its end among it, and the answer is the place behind it.
+#![tactic(auto)]
+
 ghost use Rattle.printing.specs.Printed.{bytes_of_text, characters_of, Prints};
 ghost use Rattle.replies.specs.Replies.{ok_line, refusal_line, long_line};
 

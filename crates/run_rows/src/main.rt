@@ -3,6 +3,8 @@
 // not as it should be: a run that writes what the file `stdout` has is right.
 //
 // Nothing here trusts the reader or the transcriber: every count is tested before anything is indexed by it.
+#![tactic(auto)]
+
 mod dots;
 mod limits;
 mod say;

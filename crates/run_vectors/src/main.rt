@@ -2,6 +2,8 @@
 // `FAILED NAME ..`, a line for each line that is none of a vector's, `BAD LINE N`, and the totals.
 //
 // Nothing here trusts the desk or the vectors: every count is tested before anything is indexed by it.
+#![tactic(auto)]
+
 mod lines;
 mod points;
 mod say;

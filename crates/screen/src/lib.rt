@@ -1,6 +1,8 @@
 // The proofing screen's reader: it holds the row that it borrows and a place, and it copies nothing. What a sign is, and which rows are
 // refused, is `stepper::step`'s to say; here a place is only held, stepped from and moved.
 // The proofs of the functions over the struct are walks of their code by hand: whatever is to be decided goes into a function over plain parameters.
+#![tactic(auto)]
+
 ghost use Rattle.std.specs.Prelude.{◌≡◌};
 ghost use Rattle.rules.specs.Castilian.{castilian};
 ghost use Rattle.stepper.specs.Promise.{Shows};

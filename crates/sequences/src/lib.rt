@@ -1,4 +1,6 @@
 // The sequence of UTF-8 at a place of some bytes, and its code point. What is well formed is Unicode's table 3-7 (specs/Forms.antt).
+#![tactic(auto)]
+
 ghost use Rattle.std.specs.Prelude.{◌≡◌, ◌+◌, ◌<◌, length, drop};
 ghost use Rattle.encoding.specs.Encoding.{replacement};
 ghost use Rattle.sequences.specs.declared.Lead.TheVariants as leads;

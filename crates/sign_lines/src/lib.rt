@@ -1,4 +1,6 @@
 // The signs of an accepted row, printed: "for each sign a blank and PLACE:PRINT". Each sign is shown by a step that is given the row and the place alone.
+#![tactic(auto)]
+
 ghost use Rattle.printing.specs.Printed.{Prints};
 ghost use Rattle.sign_lines.specs.Signs.{sign_line};
 ghost use Rattle.sign_lines.specs.Walk.{shown_text, Accepted, SignsPrinted};

@@ -2,6 +2,8 @@
 // as usual (`usual`), as their small letter, their sign or their pair mark; where the mode asks for another reading (`sign_at`), the table says which
 // (tools/readings.txt). Signs that follow one another alike have quick readings besides (`run_at`, `dash_at`, `owed_at`); of a cell that is its letter or its sign in
 // a word and where nothing is begun, a bit tells it (`is_alone`, `mode_behind`).
+#![tactic(auto)]
+
 ghost use Rattle.std.specs.Prelude.{true, false, ◌≡◌, ◌+◌, ◌<◌, ◌≤◌, length, get_or};
 ghost use Rattle.rules.specs.Cells.{last_cell};
 ghost use Rattle.rules.specs.Pairs.{kinds};

@@ -1,6 +1,8 @@
 // The sign that starts at a place of a row: the proofing screen's step. What it promises is specs/Promise.antt.
 // The row is walked once (crates/walks), in three parts: up to the place, over the sign there, and to the end. What a walk knows follows from the cells before, and
 // nothing is kept from one step to the next. A row that is not accepted is refused with what `reader::read` answers.
+#![tactic(auto)]
+
 ghost use Rattle.std.specs.Prelude.{◌⊎◌, ◌≡◌, ◌+◌, ◌≤◌, ◌<◌, length};
 ghost use Rattle.rules.specs.Castilian.{castilian};
 ghost use Rattle.stepper.specs.Promise.{Shows};

@@ -1,6 +1,8 @@
 // Print to cells. `transcribe` is the public function; what it promises is specs/Promise.antt.
 // The passes over a text (`passes::transcribe_normal`) take “ ” ‹ › for what they become, « » ‘ ’ (`plainly`), so only print with …, or with º or ª that lacks its
 // full stop, is copied.
+#![tactic(auto)]
+
 ghost use Rattle.std.specs.Prelude.{◌≡◌, ◌≤◌, length};
 ghost use Rattle.rules.specs.Castilian.{castilian};
 ghost use Rattle.rules.specs.Normal.{normal_of};

@@ -2,6 +2,8 @@
 // Read ahead is only where a run, a number or a denominator begins and after a point of a number; a state carries what was found.
 // A loop finds a place and no more, and what stands there is read anew: so the caller's loop keeps no counter for it (docs/DECISIONS.md, 30).
 // A new question is an arm of `settled`. A new capital is also an arm of `is_capital`.
+#![tactic(auto)]
+
 ghost use Rattle.std.specs.Prelude.{◌≡◌, get_or};
 ghost use Rattle.rules.specs.Castilian.{castilian};
 ghost use Rattle.rules.specs.Sorts.{class, is_digit, is_ordinal};

@@ -1,4 +1,6 @@
 // UTF-8: the code points of any bytes. What stands at a place is read in `sequences`; the bytes of a code point are in `encoding`.
+#![tactic(auto)]
+
 ghost use Rattle.std.specs.Prelude.{◌≡◌, ◌≤◌, length, set};
 ghost use Rattle.utf8.specs.Decoding.{Decoded};
 

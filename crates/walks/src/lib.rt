@@ -1,5 +1,7 @@
 // A walk over a part of a row, sign by sign (`walk`), and over a whole row of cells (`walk_row`). Between two signs it knows a mode and which pairs are open; both
 // follow from the cells before. What is read is written to a lent text, if there is room for it. What a walk finds is specs/Walks.antt.
+#![tactic(auto)]
+
 ghost use Rattle.std.specs.Prelude.{List, [], ◌≡◌, ℕ, ◌+◌, ◌*◌, ◌≤◌, ◌<◌, length};
 ghost use Rattle.rules.specs.Refusals.{longest_row};
 ghost use Rattle.pairs.specs.Opened.{open_states};

@@ -1,4 +1,6 @@
 // The second pass: signs to a lent row, one behind another. It is lent signs and no text, and what it promises is of any signs (specs/Joined.antt).
+#![tactic(auto)]
+
 ghost use Rattle.std.specs.Prelude.{◌≡◌, [], ◌∷◌, ◌≤◌, length};
 ghost use Rattle.rows.specs.Laid.{laid};
 ghost use Rattle.entries.specs.SignWords.{cells_in};

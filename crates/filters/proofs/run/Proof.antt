@@ -23,7 +23,7 @@ array-borrow-prefix-line c = search rules
 
 slice-aggregate-filter-2 : tie.Need-slice-aggregate-filter-2
 slice-aggregate-filter-2 c =
-    let l = c.before.before.longest_line_lem in
+    let l = c.before.before.longest_line in
     sym (length-take-le l.result (replicate 40960 0) (rw length-replicate l.ensures.1))
 
 slice-aggregate-filter-3 : tie.Need-slice-aggregate-filter-3
@@ -40,7 +40,7 @@ slice-aggregate-filter-6 c = search rules
 
 filter-requires : tie.Need-filter-requires
 filter-requires c κs =
-    let l = c.before.before.before.before.before.before.longest_line_lem in record {
+    let l = c.before.before.before.before.before.before.longest_line in record {
       line = length-take-le l.result (replicate 40960 0) (rw length-replicate l.ensures.1) ∙ l.ensures.0;
       points = rw length-replicate (omega arith);
       row = rw length-replicate (omega arith);

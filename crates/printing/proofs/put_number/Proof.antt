@@ -32,7 +32,7 @@ returns c =
     let d = p.before.before.before in
     let s = d.before.before.before in
     let a = s.args in
-    prints_as a.out.now a.at _ _ _ _ (d.decimal.ensures.1.1 ∙ decimal_is a.n d.decimal.result (omega (arith, s.ranges)) d.decimal.ensures.1.0) p.put_all_lem.ensures
+    prints_as a.out.now a.at _ _ _ _ (d.decimal.ensures.1.1 ∙ decimal_is a.n d.decimal.result (omega (arith, s.ranges)) d.decimal.ensures.1.0) p.put_all.ensures
 
 pub put-number-spec : {M : Type 1} → statement M
 put-number-spec =

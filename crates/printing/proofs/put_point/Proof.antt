@@ -33,7 +33,7 @@ returns c =
     let p = c.before.before in
     let e = p.before.before.before.before in
     let a = e.before.before.before.args in
-    prints_as a.out.now a.at _ _ _ _ (point_bytes _ _ e.encode.result _ (search rules) e.encode.ensures.0 e.encode.ensures.1) p.put_all_lem.ensures
+    prints_as a.out.now a.at _ _ _ _ (point_bytes _ _ e.encode.result _ (search rules) e.encode.ensures.0 e.encode.ensures.1) p.put_all.ensures
 
 pub put-point-spec : {M : Type 1} → statement M
 put-point-spec =

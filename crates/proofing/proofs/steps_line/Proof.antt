@@ -92,7 +92,7 @@ returns-2 c =
     let o = d.before.before.before.before.before.before in
     let s = o.before.before.before.before.before.before.before in
     ends_accepted s.args.line.now s.args.points.now s.args.row.now s.args.out.now o.row_of.new.1.0 o.row_of.new.1.1.0 o.row_of.result o.row_of.ensures.0
-    a.put_all_lem.result a.put_all_lem.new.0 g.put-signs.result g.put-signs.new.0 p.put.result p.put.new.0 a.put_all_lem.ensures g.put-signs.ensures p.put.ensures
+    a.put_all.result a.put_all.new.0 g.put-signs.result g.put-signs.new.0 p.put.result p.put.new.0 a.put_all.ensures g.put-signs.ensures p.put.ensures
 
 pub steps-line-spec : {M : Type 1} → statement M
 steps-line-spec =

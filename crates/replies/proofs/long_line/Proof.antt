@@ -24,7 +24,7 @@ returns : tie.Need-returns
 returns c =
     let q = c.before.before in
     let p = q.before.before.before.before in
-    line_long _ _ _ _ _ p.put_all_lem.ensures q.put.ensures
+    line_long _ _ _ _ _ p.put_all.ensures q.put.ensures
 
 pub long-line-spec : {M : Type 1} → statement M
 long-line-spec =

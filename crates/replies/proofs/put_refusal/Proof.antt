@@ -42,7 +42,7 @@ returns c =
     let q = s.before.before.before.before in
     let p = q.before.before.before.before in
     let a = p.before.before.before.before.args in
-    line_refusal a.number a.second _ _ _ _ _ _ _ _ _ _ _ _ _ p.put_all_lem.ensures q.put.ensures s.put-number.ensures t.put2.ensures
+    line_refusal a.number a.second _ _ _ _ _ _ _ _ _ _ _ _ _ p.put_all.ensures q.put.ensures s.put-number.ensures t.put2.ensures
     u.put-number2.ensures v.put3.ensures
 
 pub put-refusal-spec : {M : Type 1} → statement M

@@ -35,7 +35,7 @@ returns c =
     let t = u.before.before.before.before in
     let p = t.before.before.before.before in
     let a = p.before.before.before.before.before.args in
-    line_ok (characters_of a.row.now) _ _ _ _ _ _ _ _ _ p.put_all_lem.ensures t.put.ensures u.put-cells.ensures v.put2.ensures
+    line_ok (characters_of a.row.now) _ _ _ _ _ _ _ _ _ p.put_all.ensures t.put.ensures u.put-cells.ensures v.put2.ensures
 
 pub row-line-spec : {M : Type 1} → statement M
 row-line-spec =

@@ -35,7 +35,7 @@ returns c =
     let t = u.before.before.before.before in
     let p = t.before.before.before.before in
     let a = p.before.before.before.before.before.args in
-    line_ok (bytes_of_text a.text.now) _ _ _ _ _ _ _ _ _ p.put_all_lem.ensures t.put.ensures u.put-text.ensures v.put2.ensures
+    line_ok (bytes_of_text a.text.now) _ _ _ _ _ _ _ _ _ p.put_all.ensures t.put.ensures u.put-text.ensures v.put2.ensures
 
 pub text-line-spec : {M : Type 1} → statement M
 text-line-spec =

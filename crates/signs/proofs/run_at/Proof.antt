@@ -83,7 +83,7 @@ returns-3 : tie.Need-returns-3
 returns-3 c =
     let k = c.before.before in
     let s = start k.before.before.before in
-    in_number s.args.row.now s.args.at s.args.mode s.args.opened c.point_inside_lem.result k.if3.true c.point_inside_lem.ensures
+    in_number s.args.row.now s.args.at s.args.mode s.args.opened c.point_inside.result k.if3.true c.point_inside.ensures
 
 returns-4 : tie.Need-returns-4
 returns-4 c = (_, refl, inl refl)
