@@ -1,0 +1,7 @@
+-- `store_byte`: a store past the end changes nothing. Assumes nothing.
+use mathlib.Core.Path.{sym}
+use lib.Seq.{set_out}
+use Rattle.encoding.proofs.store_byte.Goals as goal
+
+pub returns-else-place-bytes : goal.returns-else-place-bytes
+returns-else-place-bytes c = sym (set_out c.before.args.bytes.now c.before.args.place c.before.args.byte c.if-place-bytes.false)

@@ -1,0 +1,28 @@
+-- `is_digit`: the code points of the list and of the range are all that the sign list has of its digits. Assumes nothing.
+use mathlib.Core.Path.{◌≡◌, refl, sym, ◌∙◌}
+use mathlib.Core.List.{List, []}
+use Prim.Native.Nat.{ℕ}
+use Rattle.rules.specs.Castilian.{castilian}
+use Rattle.rules.specs.Cells.{dots}
+use Rattle.rules.specs.Sorts.{class, is_digit_cell, is_digit}
+use Rattle.rules.specs.Rows.{sort_in}
+use Rattle.turns.proofs.Points.{told, told_in, told_below, told_above, known}
+use Rattle.turns.proofs.is_digit.Goals as goal
+
+points : List ℕ
+points = []
+
+is-it : (c : ℕ) → is_digit (class (sort_in castilian c)) ≡ told points 48 10 c
+unfolding castilian sort_in class is_digit_cell dots points
+is-it = known castilian is_digit points 48 10 tt tt tt refl
+
+pub returns-in-48-to-57 : goal.returns-in-48-to-57
+returns-in-48-to-57 c = sym (is-it c.before.before.args.point ∙ told_in points 48 10 c.before.before.args.point c.before.if-point-lt48.false c.if-point-lt58.true)
+
+pub returns-in_default : goal.returns-in_default
+unfolding points
+returns-in_default c = sym (is-it c.before.args.point ∙ told_below points 48 10 c.before.args.point refl c.if-point-lt48.true)
+
+pub returns-in_default-2 : goal.returns-in_default-2
+unfolding points
+returns-in_default-2 c = sym (is-it c.before.before.args.point ∙ told_above points 48 10 c.before.before.args.point refl c.if-point-lt58.false)
