@@ -11,14 +11,16 @@ put_bytes-requires c =
 
 pub returns-then-is_scalar : goal.returns-then-is_scalar
 returns-then-is_scalar c =
-    let p = c.before.before in
+    let p = c.before.before.before in
     let t = p.before.before in
     let s = t.before.before.before in
-    encoded s.args.point _ s.args.bytes.now _ _ (scalar_is s.args.point (sym t.before.is_scalar.ensures ∙ t.if-is_scalar.true)) p.put_bytes.ensures
+    let e = encoded s.args.point _ s.args.bytes.now _ _ (scalar_is s.args.point (sym t.before.is_scalar.ensures ∙ t.if-is_scalar.true)) p.put_bytes.ensures in
+    record { encoded = e.0; upper_bound = e.1 }
 
 pub returns : goal.returns
 returns c =
-    let p = c.before.before in
+    let p = c.before.before.before in
     let t = p.before.before in
     let s = t.before.before.before in
-    encoded s.args.point _ s.args.bytes.now _ _ (other_is s.args.point (sym t.before.is_scalar.ensures ∙ t.if-is_scalar.false)) p.put-bytes2.ensures
+    let e = encoded s.args.point _ s.args.bytes.now _ _ (other_is s.args.point (sym t.before.is_scalar.ensures ∙ t.if-is_scalar.false)) p.put_bytes-2.ensures in
+    record { encoded = e.0; upper_bound = e.1 }

@@ -11,7 +11,15 @@ use Rattle.rules.specs.Rows.{sort_in}
 use Rattle.turns.specs.Ahead.{class_at}
 use Rattle.turns.proofs.Ahead.{zero_unlisted, stands_inside, form_on, form_at}
 use Rattle.turns.proofs.behind_digits.Goals as goal
-use Rattle.turns.proofs.behind_digits.Goals.{After-is_digit, In-loop-place}
+use Rattle.turns.proofs.behind_digits.Lts as lts
+use Rattle.turns.proofs.behind_digits.Tie as tie
+use Rattle.turns.proofs.behind_digits.Reads as reads
+
+abbrev After-is_digit : Type 0
+After-is_digit = lts.After-is_digit tie.the-claims reads.Pre reads.Post goal.the-invariant-loop-place goal.the-decreases-loop-place
+
+abbrev Then1 : Type 0
+Then1 = lts.Then1 tie.the-claims reads.Pre reads.Post goal.the-invariant-loop-place goal.the-decreases-loop-place
 
 -- what stands at the place that is reached
 told : (c : After-is_digit)
@@ -19,7 +27,7 @@ told : (c : After-is_digit)
 told c = c.is_digit.ensures ∙ ap (λ (n : ℕ). is_digit (class (sort_in castilian n))) c.before.point_at.ensures
 
 -- a digit that stands there is one of the text
-inside : (c : In-loop-place) → c.before.before.before.loop-place.place < length c.before.before.before.before.before.args.text.now
+inside : (c : Then1) → c.before.before.before.loop-place.place < length c.before.before.before.before.before.args.text.now
 inside c =
     let l = c.before.before.before in
     stands_inside castilian zero_unlisted is_digit refl l.before.before.args.text.now l.loop-place.place (sym (told c.before) ∙ c.loop-place-test.true)
@@ -28,17 +36,17 @@ pub loop-place-init : goal.loop-place-init
 loop-place-init c = refl
 
 pub overflow_add-place : goal.overflow_add-place
-overflow_add-place c = let h = inside c in search rules
+overflow_add-place c = let h = inside c.before in search rules
 
 pub loop-place-smaller : goal.loop-place-smaller
-loop-place-smaller c = omega (arith, inside c)
+loop-place-smaller c = omega (arith, inside c.before)
 
 pub loop-place-preserved : goal.loop-place-preserved
 loop-place-preserved c =
-    let l = c.before.before.before in
-    l.loop-place.invariant ∙ form_on castilian zero_unlisted l.before.before.args.text.now l.loop-place.place (sym (told c.before) ∙ c.loop-place-test.true)
+    let l = c.before.before.before.before in
+    l.loop-place.invariant ∙ form_on castilian zero_unlisted l.before.before.args.text.now l.loop-place.place (sym (told c.before.before) ∙ c.before.loop-place-test.true)
 
 pub returns : goal.returns
 returns c =
-    let l = c.before.before.before in
-    l.loop-place.invariant ∙ form_at castilian zero_unlisted l.before.before.args.text.now l.loop-place.place (sym (told c.before) ∙ c.loop-place-test.false)
+    let l = c.before.before.before.before in
+    l.loop-place.invariant ∙ form_at castilian zero_unlisted l.before.before.args.text.now l.loop-place.place (sym (told c.before.before) ∙ c.before.loop-place-test.false)

@@ -9,6 +9,6 @@ use Rattle.turns.proofs.digit_follows.Goals as goal
 
 pub returns : goal.returns
 returns c =
-    c.is_digit.ensures
-    ∙ ap (λ (n : ℕ). is_digit (class (sort_in castilian n))) c.before.point_at.ensures
-    ∙ sym (digit_at castilian zero_unlisted c.before.before.before.args.text.now c.before.before.before.args.place)
+    c.before.is_digit.ensures
+    ∙ ap (λ (n : ℕ). is_digit (class (sort_in castilian n))) c.before.before.point_at.ensures
+    ∙ sym (digit_at castilian zero_unlisted c.before.before.before.before.args.text.now c.before.before.before.before.args.place)

@@ -15,7 +15,15 @@ use Rattle.turns.proofs.Ahead.{zero_unlisted, stands_inside}
 use Rattle.turns.proofs.Points.{told_above, known}
 use borrow.Author.Rules.{rules}
 use Rattle.turns.proofs.ends_form.Goals as goal
-use Rattle.turns.proofs.ends_form.Goals.{In-46, In-8260}
+use Rattle.turns.proofs.ends_form.Lts as lts
+use Rattle.turns.proofs.ends_form.Tie as tie
+use Rattle.turns.proofs.ends_form.Reads as reads
+
+abbrev At-match-keys1 : Type 0
+At-match-keys1 = lts.At-match-keys1 tie.the-claims reads.Pre reads.Post
+
+abbrev At-match-keys2 : Type 0
+At-match-keys2 = lts.At-match-keys2 tie.the-claims reads.Pre reads.Post
 
 abbrev stop : ℕ
 stop = 0x2e
@@ -50,37 +58,37 @@ module _ (text : List ℕ) (i : ℕ) where
   with-neither a b = let n = neither (get_or text i 0) a b in sym (rw (n.0, n.1))
 
 -- the two places where something may go on
-at-stop : (c : In-46)
+at-stop : (c : At-match-keys1)
     → (c.before.before.before.args.place < length c.before.before.before.args.text.now)
     × (is_ordinal (class_at castilian c.before.before.before.args.text.now (c.before.before.before.args.place + 1))
     ≡ ends_form castilian c.before.before.before.args.text.now c.before.before.before.args.place)
-at-stop c = with-stop _ _ (sym c.before.point_at.ensures ∙ c.in-46.is)
+at-stop c = with-stop _ _ (sym c.before.point_at.ensures ∙ c.in-46-1.keys1)
 
-at-bar : (c : In-8260)
+at-bar : (c : At-match-keys2)
     → (c.before.before.before.args.place < length c.before.before.before.args.text.now)
     × (is_digit (class_at castilian c.before.before.before.args.text.now (c.before.before.before.args.place + 1))
     ≡ ends_form castilian c.before.before.before.args.text.now c.before.before.before.args.place)
-at-bar c = with-bar _ _ (sym c.before.point_at.ensures ∙ c.in-8260.is)
+at-bar c = with-bar _ _ (sym c.before.point_at.ensures ∙ c.in-8260-1.keys2)
 
 pub overflow_add-place : goal.overflow_add-place
-overflow_add-place c = let h = (at-stop c).0 in search rules
+overflow_add-place c = let h = (at-stop (lts.walk_of-At-match-keys1 tie.the-claims reads.Pre reads.Post c.before)).0 in search rules
 
 pub overflow_add-place-in-8260 : goal.overflow_add-place-in-8260
-overflow_add-place-in-8260 c = let h = (at-bar c).0 in search rules
+overflow_add-place-in-8260 c = let h = (at-bar (lts.walk_of-At-match-keys2 tie.the-claims reads.Pre reads.Post c.before)).0 in search rules
 
 pub returns-in-46 : goal.returns-in-46
 returns-in-46 c =
-    c.is_ordinal.ensures
-    ∙ ap (λ (n : ℕ). is_ordinal (class (sort_in castilian n))) c.before.point-at2.ensures
-    ∙ (at-stop c.before.before).1
+    c.before.is_ordinal.ensures
+    ∙ ap (λ (n : ℕ). is_ordinal (class (sort_in castilian n))) c.before.before.point_at-in-46.ensures
+    ∙ (at-stop (lts.walk_of-At-match-keys1 tie.the-claims reads.Pre reads.Post c.before.before.before)).1
 
 pub returns-in-8260 : goal.returns-in-8260
 returns-in-8260 c =
-    c.is_digit.ensures
-    ∙ ap (λ (n : ℕ). is_digit (class (sort_in castilian n))) c.before.point-at3.ensures
-    ∙ (at-bar c.before.before).1
+    c.before.is_digit.ensures
+    ∙ ap (λ (n : ℕ). is_digit (class (sort_in castilian n))) c.before.before.point_at-in-8260.ensures
+    ∙ (at-bar (lts.walk_of-At-match-keys2 tie.the-claims reads.Pre reads.Post c.before.before.before)).1
 
 pub returns-in_default : goal.returns-in_default
 returns-in_default c =
-    with-neither c.before.before.before.args.text.now c.before.before.before.args.place
-    (λ e. c.in_default.in_default-own.rest.0.1 (c.before.point_at.ensures ∙ e)) (λ e. c.in_default.in_default-own.rest.1 (c.before.point_at.ensures ∙ e))
+    with-neither c.before.before.before.before.args.text.now c.before.before.before.before.args.place
+    (λ e. c.before.in_default.in_default-own.rest.0.1 (c.before.before.point_at.ensures ∙ e)) (λ e. c.before.in_default.in_default-own.rest.1 (c.before.before.point_at.ensures ∙ e))

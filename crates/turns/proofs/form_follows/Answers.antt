@@ -3,4 +3,4 @@ use mathlib.Core.Path.{sym, ◌∙◌}
 use Rattle.turns.proofs.form_follows.Goals as goal
 
 pub returns : goal.returns
-returns c = c.ends_form.ensures ∙ sym c.before.behind_digits-end.ensures
+returns c = c.before.ends_form.ensures ∙ sym c.before.before.behind_digits-end.ensures

@@ -24,7 +24,7 @@ is-it = known castilian is_capital points 65 26 tt tt tt refl
 pub returns-then-point-le-CAPITAL_Z : goal.returns-then-point-le-CAPITAL_Z
 returns-then-point-le-CAPITAL_Z c =
     let p = c.before.before.args.point in
-    sym (is-it p ∙ told_in points 65 26 p c.before.else-point-ge-CAPITAL_A.true (omega (arith, leb-true p 90 c.if-point-le-CAPITAL_Z.true)))
+    sym (is-it p ∙ told_in points 65 26 p c.before.if-point-ge-CAPITAL_A.true (omega (arith, c.if-point-le-CAPITAL_Z.true)))
 
 pub returns-in-193 : goal.returns-in-193
 unfolding points
@@ -61,4 +61,4 @@ returns-in_default c =
     let n = (rest_none Unit points p c.in_default.in_default-own.rest).1 in
     sym
     (is-it p
-    ∙ ⊎_elim (λ t. told_above points 65 26 p n (omega (arith, leb-false p 90 t.1.left))) (λ t. told_below points 65 26 p n t.left) c.before.else-point-ge-CAPITAL_A.branch)
+    ∙ ⊎_elim (λ t. told_above points 65 26 p n (omega (arith, t.if-point-le-CAPITAL_Z.false))) (λ t. told_below points 65 26 p n t.if-point-ge-CAPITAL_A.false) c.before.else-point-ge-CAPITAL_A.branch-raw)

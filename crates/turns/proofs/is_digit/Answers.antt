@@ -17,12 +17,12 @@ unfolding castilian sort_in class is_digit_cell dots points
 is-it = known castilian is_digit points 48 10 tt tt tt refl
 
 pub returns-in-48-to-57 : goal.returns-in-48-to-57
-returns-in-48-to-57 c = sym (is-it c.before.before.args.point ∙ told_in points 48 10 c.before.before.args.point c.before.if-point-lt48.false c.if-point-lt58.true)
+returns-in-48-to-57 c = sym (is-it c.before.args.point ∙ told_in points 48 10 c.before.args.point c.in-48-to-57.if-point-lt48-own.false c.in-48-to-57.if-point-lt58-own.true)
 
 pub returns-in_default : goal.returns-in_default
 unfolding points
-returns-in_default c = sym (is-it c.before.args.point ∙ told_below points 48 10 c.before.args.point refl c.if-point-lt48.true)
+returns-in_default c = sym (is-it c.before.args.point ∙ told_below points 48 10 c.before.args.point refl c.in_default.if-point-lt48-own.true)
 
 pub returns-in_default-2 : goal.returns-in_default-2
 unfolding points
-returns-in_default-2 c = sym (is-it c.before.before.args.point ∙ told_above points 48 10 c.before.before.args.point refl c.if-point-lt58.false)
+returns-in_default-2 c = sym (is-it c.before.args.point ∙ told_above points 48 10 c.before.args.point refl c.in_default.if-point-lt58-own.false)
