@@ -89,7 +89,7 @@ abbrev at-r : R → L
 at-r r = r.before.before.before
 
 abbrev signs : R → List ℕ
-signs r = r.draw_usual-reached.new.signs.0
+signs r = r.draw_usual-reached.new.signs
 
 abbrev place : R → ℕ
 place r = r.draw_usual-reached.result.place
@@ -184,10 +184,10 @@ passed c =
     let o = (at-r r).loop-i.opened in
     let few = (mid a).few in
     ⊎_elim
-    (λ j. subst (Passed castilian t o (place r)) (sym j.5)
-    (passed_mark castilian held t o (place r) few a.mark_in-mark.result (mark_is a) (some_number a.mark_in-mark.result j.0.taken) _
-    (sym j.1.ensures ∙ j.3.given.1)))
-    (λ j. passed_none castilian held t o (place r) few (sym (mark_is a) ∙ j.0.left) c.if-mark-ne0.opened j.1) c.if-mark-ne0.branch-raw
+    (λ j. subst (Passed castilian t o (place r)) (sym j.opened-is)
+    (passed_mark castilian held t o (place r) few a.mark_in-mark.result (mark_is a) (some_number a.mark_in-mark.result j.if-mark-ne0.true) _
+    (sym j.pairs_after.ensures ∙ j.in-Stand.is)))
+    (λ j. passed_none castilian held t o (place r) few (sym (mark_is a) ∙ j.if-mark-ne0.false) c.if-mark-ne0.opened j.opened-is) c.if-mark-ne0.branch-raw
 
 -- the deed is known
 abbrev D : Type 0
@@ -214,8 +214,8 @@ deed_told c =
     c.before.deed_of-told.ensures ∙ ap (deed_of (state r)) (c.before.before.class_in.ensures ∙ ap class_in (entry-is (from-m (m-of c))))
     in
     subst (λ (q : ℕ). Supposed q f c.if-told-lt-QUESTIONS.deed) told
-    (⊎_elim (λ j. inl (j.1 ∙ sym (settled_low d f j.0.taken)))
-    (λ j. subst (Supposed d f) (sym j.2) (subst (λ (g : Future). Supposed d g j.1.result) (sym (future_plainly (print l) (place r + 1))) j.1.ensures))
+    (⊎_elim (λ j. inl (j.deed-is ∙ sym (settled_low d f j.if-told-lt-QUESTIONS.true)))
+    (λ j. subst (Supposed d f) (sym j.deed-is) (subst (λ (g : Future). Supposed d g j.settled-deed.result) (sym (future_plainly (print l) (place r + 1))) j.settled-deed.ensures))
     c.if-told-lt-QUESTIONS.branch-raw)
 
 pub loop-i-init : goal.loop-i-init

@@ -105,12 +105,12 @@ loop-i-preserved c =
     let s = start l in
     elim c.before.if-is_usual.branch-raw [
       | inl j ↦ under_usual castilian held (text l) s.args.signs.now s.args.begun s.args.counted s.args.from l.loop-i.signs l.loop-i.state l.loop-i.n l.loop-i.i l.loop-i.invariant
-          (inside u) j.1.result j.2.result c.before.if-is_usual.signs c.before.if-is_usual.n j.4 j.6 (sym (usual-told u) ∙ j.0.taken) c.before.if-is_usual.state
-          (j.1.ensures ∙ ap sign_in (entry-is u)) (j.5 ∙ j.3.ensures ∙ ap then_in (entry-is u)) j.2.ensures.0 j.2.ensures.1
-      | inr j ↦ subst (λ (x : ℕ). Under castilian (text l) s.args.signs.now c.before.if-is_usual.signs s.args.begun s.args.counted s.args.from x c.before.if-is_usual.n (l.loop-i.i + 1)) (sym j.6)
+          (inside u) j.sign_in-sign.result j.count_of-n.result c.before.if-is_usual.signs c.before.if-is_usual.n j.signs-is j.n-is (sym (usual-told u) ∙ j.if-is_usual.true) c.before.if-is_usual.state
+          (j.sign_in-sign.ensures ∙ ap sign_in (entry-is u)) (j.state-is ∙ j.then_in-state.ensures ∙ ap then_in (entry-is u)) j.count_of-n.ensures.0 j.count_of-n.ensures.1
+      | inr j ↦ subst (λ (x : ℕ). Under castilian (text l) s.args.signs.now c.before.if-is_usual.signs s.args.begun s.args.counted s.args.from x c.before.if-is_usual.n (l.loop-i.i + 1)) (sym j.state-is)
           (under_capital castilian held (text l) s.args.signs.now s.args.begun s.args.counted s.args.from l.loop-i.signs l.loop-i.state l.loop-i.n l.loop-i.i l.loop-i.invariant
-          (inside u) j.4.result 2 c.before.if-is_usual.signs c.before.if-is_usual.n j.5 j.7 j.1.left (sym (ap class_in (entry-is u)) ∙ sym j.2.ensures ∙ eqb→eq j.2.result 2 (rw (not-false (eqb j.2.result 2) j.3.left) tt))
-          (j.4.ensures ∙ ap (sign_by 1) (entry-is u)) refl)
+          (inside u) j.sign_of.result 2 c.before.if-is_usual.signs c.before.if-is_usual.n j.signs-is j.n-is j.if-state-ne-MIXED.false (sym (ap class_in (entry-is u)) ∙ sym j.class_in.ensures ∙ j.if-class_in-ne-CAPITAL.false)
+          (j.sign_of.ensures ∙ ap (sign_by 1) (entry-is u)) refl)
     ]
 
 pub returns : goal.returns

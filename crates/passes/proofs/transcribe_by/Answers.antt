@@ -41,7 +41,7 @@ abbrev text : D → List ℕ
 text d = plainly (print d)
 
 abbrev signs : D → List ℕ
-signs d = take (length (print d)) d.draw-measured.new.signs.0
+signs d = take (length (print d)) d.draw-measured.new.signs
 
 -- the text is accepted: the count, and the cells of the signs
 abbrev K : Type 0
@@ -50,27 +50,27 @@ K = After-known_told
 abbrev from-k : K → D
 from-k k = k.before.before.before.before.before
 
-counted : (k : K) → Cells k.before.decreases.given.0.0 ≡ measured_of castilian (text (from-k k))
-counted k = sym k.before.decreases.given.1 ∙ (from-k k).draw-measured.ensures.0
+counted : (k : K) → Cells k.before.measured-1.given.0.0 ≡ measured_of castilian (text (from-k k))
+counted k = sym k.before.measured-1.given.1 ∙ (from-k k).draw-measured.ensures.0
 
 drawn : (k : K) → joined (signs (from-k k)) ≡ whole_row castilian (text (from-k k))
-drawn k = subst (λ (m : Measured). Drawn m castilian (text (from-k k)) (signs (from-k k))) k.before.decreases.given.1 (from-k k).draw-measured.ensures.1
+drawn k = subst (λ (m : Measured). Drawn m castilian (text (from-k k)) (signs (from-k k))) k.before.measured-1.given.1 (from-k k).draw-measured.ensures.1
 
 pub slice_bounds-fitted-end-in-Cells : goal.slice_bounds-fitted-end-in-Cells
 slice_bounds-fitted-end-in-Cells c =
-    let d = from-k (lts.walk_of-After-known_told tie.the-claims reads.Pre reads.Post c.before).before in
-    let room : length (print d) ≤ length d.draw-measured.new.signs.0 = search rules in
-    sym (length-take-le (length (print d)) d.draw-measured.new.signs.0 room)
+    let d = from-k (lts.walk_of-After-known_told tie.the-claims reads.Pre reads.Post c.before) in
+    let room : length (print d) ≤ length d.draw-measured.new.signs = search rules in
+    sym (length-take-le (length (print d)) d.draw-measured.new.signs room)
 
 pub fitted-requires : goal.fitted-requires
 fitted-requires c =
-    let k = (lts.walk_of-After-known_told tie.the-claims reads.Pre reads.Post c.before.before).before in
-    (measured_cells castilian (text (from-k k)) k.before.decreases.given.0.0 (sym (counted k))).1 ∙ ap length (sym (drawn k))
+    let k = (lts.walk_of-After-known_told tie.the-claims reads.Pre reads.Post c.before.before) in
+    (measured_cells castilian (text (from-k k)) k.before.measured-1.given.0.0 (sym (counted k))).1 ∙ ap length (sym (drawn k))
 
 pub returns-in-Cells : goal.returns-in-Cells
 returns-in-Cells c =
     let f = c.before.before.before in
-    let k = (lts.walk_of-After-known_told tie.the-claims reads.Pre reads.Post f.before.before).before in
+    let k = (lts.walk_of-After-known_told tie.the-claims reads.Pre reads.Post f.before.before) in
     let d = from-k k in
     measured_fitted castilian (text d) (start d).args.row.now _ (joined (signs d)) _ _ (counted k) (drawn k) f.fitted.ensures
 
