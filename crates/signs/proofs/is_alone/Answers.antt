@@ -1,0 +1,6 @@
+-- `is_alone`: the bit of the cell tells. Assumes nothing.
+use Rattle.signs.proofs.Cases.{alone_told}
+use Rattle.signs.proofs.is_alone.Goals as goal
+
+pub returns : goal.returns
+returns c = alone_told c.args.cell c.requires
