@@ -11,7 +11,7 @@ use transcriber::Answer;
 // What the desk shows. number 0: done, and second is the count of what was written. Any other number is a refusal of paper 01's table, and second its
 // second number.
 #[repr(C)]
-#[derive(Drop)]
+#[derive(Clone, Copy)]
 pub struct Shown {
     pub number: usize,
     pub second: usize,
@@ -20,7 +20,7 @@ pub struct Shown {
 // What a step shows. number 0: second is how many code points, 1 or 2, or 0 where no sign starts at the place; `first` and `then` are the code points, and
 // NO_POINT where there is none; `next` is the place after the sign, or the place itself. Any other number is a refusal, and the place stays.
 #[repr(C)]
-#[derive(Drop)]
+#[derive(Clone, Copy)]
 pub struct Sign {
     pub number: usize,
     pub second: usize,

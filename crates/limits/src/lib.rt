@@ -4,7 +4,7 @@
 ghost use Rattle.std.specs.Prelude.{◌≡◌, ◌≤◌};
 ghost use Rattle.limits.specs.Limits.{longest_row_line, longest_line};
 
-#[derive(Drop)]
+#[derive(Clone, Copy)]
 pub enum Program {
     // print to cells
     Transcribe,

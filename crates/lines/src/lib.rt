@@ -10,7 +10,7 @@ const LINE_END: u8 = 10;
 
 // What was taken in. `next`: the place behind it. `held`: how many bytes of the line are counted; one more than the room has says that the line is longer.
 // `ended`: whether the line has ended.
-#[derive(Drop)]
+#[derive(Clone, Copy)]
 pub struct Taken {
     pub next: usize,
     pub held: usize,

@@ -49,7 +49,7 @@ const GREATEST_REPORTED: usize = 4294967295;
 const LONGEST_TEXT: usize = 4096;
 
 // What `normalise` made: a text of so many code points; or nothing, for want of room for so many.
-#[derive(Drop)]
+#[derive(Clone, Copy)]
 pub enum Normalised {
     Text(usize),
     NoRoom(usize),

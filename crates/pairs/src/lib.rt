@@ -8,7 +8,7 @@ ghost use Rattle.entries.specs.Entries.{marks};
 ghost use Rattle.pairs.specs.Opened.{open_states, is_open, turned_by, pairs_by};
 
 // The pair rule at a mark: which kinds are open after it, a bit for each, or that it may not stand there.
-#[derive(Drop)]
+#[derive(Clone, Copy)]
 pub enum Pairs {
     Stand(usize),
     Broken,

@@ -21,7 +21,7 @@ use pairs::Pairs;
 
 // The answer to a print. `Done` has the count of cells written; any other is a refusal, and the lent row is then as it was. Paper 01's number and second
 // number for each are given with the promise (`refusal_of` of the crate `transcriber`).
-#[derive(Drop)]
+#[derive(Clone, Copy)]
 pub enum Answer {
     Done(usize),
     // the normalised text is above 4,096 code points: its length
@@ -39,7 +39,7 @@ pub enum Answer {
 }
 
 // What the first pass finds: the count of cells, or the first refusal.
-#[derive(Drop)]
+#[derive(Clone, Copy)]
 pub enum Measured {
     Cells(usize),
     Refused(Answer),
@@ -47,7 +47,7 @@ pub enum Measured {
 
 // Where the first pass comes to before it has to ask: a place, the word of the code point there (NO_ENTRY at the end), the state there and the count of the cells
 // up to it. (So no code point is looked up twice.)
-#[derive(Drop)]
+#[derive(Clone, Copy)]
 pub struct Reached {
     pub place: usize,
     pub entry: u64,

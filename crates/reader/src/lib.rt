@@ -23,7 +23,7 @@ use walks::{Walked, walk, walk_row};
 
 // The answer to a row. `Done` has the count of code points written; any other is a refusal, and the lent text is then as it was. Paper 01's number and
 // second number for each are given by `Promise.refusal_of`.
-#[derive(Drop)]
+#[derive(Clone, Copy)]
 pub enum Answer {
     Done(usize),
     // the row is above 12,288 cells, or reads as a text above 4,096: that length

@@ -14,7 +14,7 @@ mod table;
 
 // What a step gives: the print of the sign (`lead` is a code point that has no cell and goes with it, or NO_POINT), the place after it, and what it
 // leaves: the mode and the open pairs. Or no sign that the rules allow starts there.
-#[derive(Drop)]
+#[derive(Clone, Copy)]
 pub enum Step {
     Sign {
         lead: u32,

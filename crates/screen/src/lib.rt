@@ -11,7 +11,7 @@ ghost use Rattle.screen.specs.Places.{place_after};
 use stepper::Shown;
 
 // A row, lent, and a place of it.
-#[derive(Drop)]
+#[derive(Clone, Copy)]
 pub struct Reader<'a> {
     pub row: &'a [u8],
     pub place: usize,

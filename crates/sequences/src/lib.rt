@@ -10,7 +10,7 @@ use encoding::{LATER_MARK, LATER_VALUES, MARK_1, MARK_2, MARK_3, MARK_4, REPLACE
 
 // What table 3-7 says of a first byte: how many bytes come behind it, the range of the first of these, and the mark in front of the first byte's own bits;
 // or that no sequence begins with it.
-#[derive(Drop)]
+#[derive(Clone, Copy)]
 pub enum Lead {
     Begins {
         later: usize,
@@ -22,14 +22,14 @@ pub enum Lead {
 }
 
 // What the later bytes give: the code point, or that they are not those of the sequence.
-#[derive(Drop)]
+#[derive(Clone, Copy)]
 pub enum Joined {
     Point(u32),
     Outside,
 }
 
 // The code point at a place, and the place behind its bytes.
-#[derive(Drop)]
+#[derive(Clone, Copy)]
 pub struct Next {
     pub point: u32,
     pub next: usize,

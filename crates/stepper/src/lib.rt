@@ -14,7 +14,7 @@ use walks::{Walked, walk};
 
 // What a step shows: the print of the sign that starts at the place, and the place after it (`lead` is NO_POINT where the sign has one code point); no code
 // point, and the place stays; or a refusal, and the place stays.
-#[derive(Drop)]
+#[derive(Clone, Copy)]
 pub enum Shown {
     Sign { lead: u32, point: u32, next: usize },
     Still,

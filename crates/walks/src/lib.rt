@@ -16,7 +16,7 @@ use signs::NO_RUN;
 
 // What a walk over a part of the row finds: the place that it comes to, what the signs up to it leave (the mode and the open pairs), and how many code
 // points are counted; or that no text has the row, and a place before which every byte that it walked over is a cell.
-#[derive(Drop)]
+#[derive(Clone, Copy)]
 pub enum Walked {
     On {
         at: usize,

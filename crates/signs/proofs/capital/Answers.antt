@@ -99,8 +99,8 @@ meets : (k : L) → (A : Type 0) → (Again k → k.capital_of-letter.result ≡
 unfolding dots
 meets k A far near =
     let cell = cell_of (of-letter k).args.row.now in
-    ⊎_elim (λ j. far (sym (second k).cell_at-second.ensures ∙ j.0.taken) (at_place k (Z (of-letter k)) (ap cell j.1)))
-    (λ j. near (λ q. j.0.left ((second k).cell_at-second.ensures ∙ q)) (at_place k (Y (of-letter k)) (ap cell j.1))) k.before.before.if-second-eq-D46.branch-raw
+    ⊎_elim (λ j. far (sym (second k).cell_at-second.ensures ∙ j.if-second-eq-D46.true) (at_place k (Z (of-letter k)) (ap cell j.letter_at-is)))
+    (λ j. near (λ q. j.if-second-eq-D46.false ((second k).cell_at-second.ensures ∙ q)) (at_place k (Y (of-letter k)) (ap cell j.letter_at-is))) k.before.before.if-second-eq-D46.branch-raw
 
 first_is : (k : L) → Again k → k.capital_of-letter.result ≡ capital_in (word_of (Z (of-letter k)))
 first_is k a = meets k _ (λ b e. e) (λ n e. absurd (n a))

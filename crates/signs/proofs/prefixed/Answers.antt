@@ -50,8 +50,8 @@ longer j =
     let s = start k in
     ⊎_elim
     (λ w. no_digit s.args.at s.args.opened s.args.deed s.args.word (Y s) (Z s)
-    (sym (digit_is (record { before = record { before = k; if1 = w.0 }; is_digit = w.1 })) ∙ w.2.left))
-    (λ w. no_separator s.args.at s.args.opened s.args.deed s.args.word (Y s) (Z s) w.left) j.if-deed-eq-SEPARATES.branch-raw
+    (sym (digit_is (record { before = record { before = k; if-deed-eq-SEPARATES = w.if-deed-eq-SEPARATES }; is_digit = w.is_digit })) ∙ w.if-is_digit.false))
+    (λ w. no_separator s.args.at s.args.opened s.args.deed s.args.word (Y s) (Z s) w.if-deed-eq-SEPARATES.false) j.if-deed-eq-SEPARATES.branch-raw
 
 -- once the sign is looked up
 abbrev F : Type 0

@@ -38,7 +38,7 @@ returns-then-point-ne-NO_POINT c =
     let w = p.before in
     let s = start w in
     let e : c.before.sign.result ≡ Sign no_point p.field_in-point.result (s.args.at + 1) (home_of s.args.mode) s.args.opened =
-    c.before.sign.ensures ∙ ap (λ (n : ℕ). Sign no_point p.field_in-point.result (s.args.at + 1) n s.args.opened) h.Home-of.ensures in (
+    c.before.sign.ensures ∙ ap (λ (n : ℕ). Sign no_point p.field_in-point.result (s.args.at + 1) n s.args.opened) h.home_of.ensures in (
       home_of s.args.mode,
       home_run s.args.mode,
       inr (
