@@ -1,0 +1,14 @@
+-- `dashes`: each sign is a turn of the walk, behind U+2014 (`Mid`), of one code point, for which there is room. The measure is what is left of the row. Assumes nothing.
+use mathlib.Core.Path.{◌≡◌}
+use Prim.Native.Nat.{◌-◌}
+use lib.ListN.{length}
+use Rattle.readings.specs.Modes.{dash}
+use Rattle.walks.specs.Walks.{Room}
+use Rattle.walks.proofs.Walking.{Mid}
+use Rattle.walks.proofs.dashes.Given as goal
+
+abbrev pub invariant-loop-at : goal.invariant-loop-at
+invariant-loop-at l = Mid l.row l.stop l.from dash l.unclosed l.counted l.initial.text l.text dash l.unclosed l.count l.at × Room l.stop l.at l.count (length l.initial.text)
+
+abbrev pub decreases-loop-at : goal.decreases-loop-at
+decreases-loop-at l = length l.row - l.at
