@@ -21,7 +21,7 @@ pub loop-at-preserved : goal.loop-at-preserved
 loop-at-preserved c =
     let a = c.before.before in
     let i = a.before.before in
-    alone_more i.before.loop-at.invariant (omega (arith, i.loop-at-test.true)) (sym a.is_alone.ensures ∙ not-false a.is_alone.result c.before.if-not-is_alone.false)
+    alone_more i.before.loop-at.invariant (omega (arith, i.loop-at-test.true)) (sym a.is_alone.ensures ∙ c.before.if-not-is_alone.false)
 
 pub returns : goal.returns
 returns c = c.before.before.loop-at.invariant

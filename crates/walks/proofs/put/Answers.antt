@@ -18,4 +18,4 @@ pub returns : goal.returns
 returns c =
     let s = c.before.before in
     put_two s.args.text.now c.if-count-text.text s.args.count s.args.lead s.args.point c.before.if-lead-eq-NO_POINT.false
-    (⊎_elim (λ w. inl w.1) (λ w. inr (w.0.left, w.1)) c.if-count-text.branch-raw)
+    (⊎_elim (λ w. inl w.text-is) (λ w. inr (w.if-count-text.false, w.text-is)) c.if-count-text.branch-raw)

@@ -324,19 +324,22 @@ forward c =
 
 pub loop-at-preserved-then-mode_after-ge-ALIKE : goal.loop-at-preserved-then-mode_after-ge-ALIKE
 loop-at-preserved-then-mode_after-ge-ALIKE c =
-    let b = b-of (lts.walk_of-After-known_told3 tie.the-claims reads.Pre reads.Post goal.the-invariant-loop-at goal.the-decreases-loop-at c.before) in
+    let k = (lts.walk_of-After-known_told3 tie.the-claims reads.Pre reads.Post goal.the-invariant-loop-at goal.the-decreases-loop-at c.before) in
+    let b = b-of k in
     let p = p-at b in
     let l = at-w (of-j (j-of p)) in
     let e = b.limit_behind-limit.ensures in
-    let room = room_of (a-of (lts.walk_of-After-known_told3 tie.the-claims reads.Pre reads.Post goal.the-invariant-loop-at goal.the-decreases-loop-at c.before)).alike.result (a-of (lts.walk_of-After-known_told3 tie.the-claims reads.Pre reads.Post goal.the-invariant-loop-at goal.the-decreases-loop-at c.before)).alike.ensures.1 c.before.in-On.is in (
-      mid_more (mid2 p) (a-of (lts.walk_of-After-known_told3 tie.the-claims reads.Pre reads.Post goal.the-invariant-loop-at goal.the-decreases-loop-at c.before)).alike.result (runs_wider (a-of (lts.walk_of-After-known_told3 tie.the-claims reads.Pre reads.Post goal.the-invariant-loop-at goal.the-decreases-loop-at c.before)).alike.result e.0 (a-of (lts.walk_of-After-known_told3 tie.the-claims reads.Pre reads.Post goal.the-invariant-loop-at goal.the-decreases-loop-at c.before)).alike.ensures.0) c.before.in-On.is,
+    let room = room_of (a-of k).alike.result (a-of k).alike.ensures.1 c.before.in-On.is in (
+      mid_more (mid2 p) (a-of k).alike.result (runs_wider (a-of k).alike.result e.0 (a-of k).alike.ensures.0) c.before.in-On.is,
       e.0,
       omega (arith, room, (mid2 p).wrote.0),
-      λ h. inl (onward l (omega (arith, (turn2 (j-of p)).forward, forward (lts.walk_of-After-known_told3 tie.the-claims reads.Pre reads.Post goal.the-invariant-loop-at goal.the-decreases-loop-at c.before)))),
+      λ h. inl (onward l (omega (arith, (turn2 (j-of p)).forward, forward k))),
     )
 
 pub loop-at-smaller-then-mode_after-ge-ALIKE : goal.loop-at-smaller-then-mode_after-ge-ALIKE
-loop-at-smaller-then-mode_after-ge-ALIKE c = let n = (loop-at-preserved-then-mode_after-ge-ALIKE (lts.walk_of-After-known_told3 tie.the-claims reads.Pre reads.Post goal.the-invariant-loop-at goal.the-decreases-loop-at c.before)).0 in omega (arith, (turn2 (j-of (p-at (b-of (lts.walk_of-After-known_told3 tie.the-claims reads.Pre reads.Post goal.the-invariant-loop-at goal.the-decreases-loop-at c.before))))).forward, n.leads.within, forward (lts.walk_of-After-known_told3 tie.the-claims reads.Pre reads.Post goal.the-invariant-loop-at goal.the-decreases-loop-at c.before))
+loop-at-smaller-then-mode_after-ge-ALIKE c =
+    let k = (lts.walk_of-After-known_told3 tie.the-claims reads.Pre reads.Post goal.the-invariant-loop-at goal.the-decreases-loop-at c.before) in
+    let n = (loop-at-preserved-then-mode_after-ge-ALIKE c).0 in omega (arith, (turn2 (j-of (p-at (b-of k)))).forward, n.leads.within, forward k)
 
 pub loop-at-smaller : goal.loop-at-smaller
 loop-at-smaller c = let t = turn2 (j-of (p-at c.before.before)) in omega (arith, t.forward, t.within)
