@@ -2,13 +2,10 @@
 -- Assumes nothing.
 use mathlib.Core.Path.{◌≡◌, refl, sym, ap, ◌∙◌, subst}
 use mathlib.Core.List.{List, [], ◌∷◌}
-use mathlib.Core.Logic.{⊎_elim}
 use Prim.Native.Nat.{ℕ, ◌≤◌, ◌<◌, zero-le}
 use native.Mathlib.Omega.{arith}
 use native.Mathlib.Nat.{min-eq_left}
 use lib.ListN.{length}
-use types.Run.{OneOf}
-use denote.Enum.Declared.{tag_of}
 use Rattle.rules.specs.Cells.{Text, Row}
 use Rattle.rules.specs.Signs.{print_of}
 use Rattle.rules.specs.Rows.{Reads}
@@ -27,7 +24,6 @@ use Rattle.reader.specs.Promise.{refusal_of, Read, done, refused}
 use Rattle.reader.specs.Passes.{FirstHigh, RefusesRow, Settled, settled_done, settled_refused}
 use Rattle.reader.specs.declared.Answer.{Answer}
 use Rattle.reader.specs.declared.Answer.TheVariants.{Done, TooLong, NotACell, NoText, NeedsRoom}
-use Rattle.reader.specs.contracts.Answer.{the_type}
 use Rattle.reader.proofs.Whole.{left_text, no_longer, Told}
 
 -- THE ROW'S REFUSALS
@@ -87,10 +83,10 @@ module _ (r : Row) where
   settle_refused a h room = settled_refused a h.0 h.1 (rules.row_refused h.0 h.2)
 
   -- THE ENDS OF `read`: nothing is written. (`let .. else` tells of the answer that its variant is none but the first.)
-  pub read_undone : (a : Answer) (lent new : List ℕ) → Settled castilian r (length lent) a → OneOf (1 ∷ 2 ∷ 3 ∷ 4 ∷ []) (tag_of the_type a) → new ≡ lent
+  pub read_undone : (a : Answer) (lent new : List ℕ) → Settled castilian r (length lent) a → ((n : ℕ) → a ≡ Done n → ⊥) → new ≡ lent
       → Read castilian r lent a new
   read_undone a lent new (settled_done t answer) other same =
-      absurd (⊎_elim (λ e. omega (arith, e)) (⊎_elim (λ e. omega (arith, e)) (⊎_elim (λ e. omega (arith, e)) (λ e. omega (arith, e)))) other)
+      absurd (other _ refl)
   read_undone a lent new (settled_refused b x e answer) other same = subst (Read castilian r lent b) (sym same) (refused b x e answer)
 
   pub read_refused : (a : Answer) → RefusesRow castilian r a → (lent new : List ℕ) → new ≡ lent → Read castilian r lent a new
