@@ -1,14 +1,15 @@
 -- `step_cell`: the look-up says what the cell is alone, and so whether the row has a text, of one sign (`one_none`, `one_alone`). Assumes nothing.
-use mathlib.Core.Path.{◌≡◌, sym, ◌∙◌, subst}
-use mathlib.Core.List.{List, [], ◌∷◌}
+use mathlib.Core.Path.{◌≡◌, sym, ap, ◌∙◌, subst}
+use mathlib.Core.List.{List, [], ◌∷◌, append-nil}
 use mathlib.Core.Option.{none}
 use Prim.Native.Nat.{ℕ, ◌-◌, ◌≤◌, zero-le}
 use native.Mathlib.Omega.{arith}
 use native.Mathlib.Nat.{not-suc-le-zero}
 use lib.ListN.{length}
+use Rattle.rules.specs.Signs.{cells_of}
 use Rattle.rules.specs.Refusals.{longest_row}
 use Rattle.rules.specs.Screen.{sign_at}
-use Rattle.walks.proofs.Walking.{sign_first}
+use Rattle.walks.proofs.Walking.{sign_first, sign_behind, sign_none}
 use Rattle.reader.proofs.Whole.{left_none}
 use Rattle.reader.proofs.OneCell.{Lone, one_none, one_alone, lone_told}
 use Rattle.stepper.proofs.Answering.{step_refused, step_still, step_sign}
@@ -67,7 +68,10 @@ returns-then-place-eq0 c =
 
 -- and nothing stands behind it
 none-behind : {r : List ℕ} {p : ℕ} (l : Lone r p) (n : ℕ) → (n ≡ 0 → ⊥) → sign_at (l.sign ∷ []) n ≡ none
-none-behind {p = p
+none-behind {p = p} l n far =
+    let wide : length (cells_of (l.sign ∷ [])) ≡ 1 = ap length (append-nil l.sign.taken) ∙ l.has in
+    sign_behind 1 0 (l.sign ∷ []) [] n (omega arith, omega (arith, l.has), (0, p, l.shows), tt) (omega (arith, wide, far))
+    ∙ sign_none (n - length (cells_of (l.sign ∷ [])))
 
 pub returns : goal.returns
 returns c =

@@ -20,7 +20,6 @@ use Rattle.walks.proofs.Walking.{leads_nowhere}
 use Rattle.reader.proofs.Answering.{row_long, row_long_text}
 use Rattle.stepper.proofs.Seeing.{lost_behind, few_parts, told_parts, no_sign_seen, sign_seen, one_point, two_points}
 use Rattle.stepper.proofs.Answering.{step_still, step_sign, step_refused}
-use borrow.Author.Tests.{not-true, not-false}
 use Rattle.stepper.proofs.step_row.Goals as goal
 use Rattle.stepper.proofs.step_row.Lts as lts
 use Rattle.stepper.proofs.step_row.Tie as tie
@@ -251,7 +250,7 @@ unread-requires-then-not-ends c =
       zero-le,
       none_before (row-k i),
       left_none (row-k i)
-          (lost_behind (gone₁ i) (gone₂ j) (not_to_end (gone₃ k) (sym c.before.before.ends.ensures ∙ not-true c.before.before.ends.result c.before.if-not-ends.true))),
+          (lost_behind (gone₁ i) (gone₂ j) (not_to_end (gone₃ k) (sym c.before.before.ends.ensures ∙ c.before.if-not-ends.true))),
     )
 
 pub returns-then-not-ends : goal.returns-then-not-ends
@@ -271,7 +270,7 @@ abbrev k-mid : T2 → K2
 k-mid e = k2-of (u-of (k-last e))
 
 ended : (e : T2) → (at_rest (mode_of (mode₃ (k-last e))) && eqb (opened₃ (k-last e)) 0) ≡ true
-ended e = sym e.before.ends.ensures ∙ not-false e.before.ends.result e.if-not-ends.false
+ended e = sym e.before.ends.ensures ∙ e.if-not-ends.false
 
 abbrev told : (e : T2) → Told (left 0 0 (row-k (k-first e))) (count₁ (k-first e) + width (k-mid e) + count₃ (k-last e))
 told e = told_parts (gone₁ (k-first e)) (gone₂ (k-mid e)) (gone₃ (k-last e)) (ended e)
