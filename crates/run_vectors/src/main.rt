@@ -36,7 +36,7 @@ const BEFORE: u8 = 4;
 const NOWHERE: usize = 0xFFFFFFFFFFFFFFFF;
 
 // What is known of the vector whose lines are being read, and of all before it. A line is held by the place in the file where it begins.
-#[derive(Drop)]
+#[derive(Clone, Copy)]
 pub struct Progress {
     line: usize,
     vectors: usize,
