@@ -9,12 +9,17 @@ mod points;
 mod say;
 mod trials;
 
-ghost use Rattle.std.specs.Prelude.{◌≤◌, ◌<◌, length};
+ghost use Rattle.std.specs.Prelude.{◌≤◌, ◌<◌, IfOk, length};
 
 use desk::Shown;
+use std::io;
+use std::io::Read;
 
 // More than the 12,288 cells of the longest row: for a vector's print, and for its cells.
 const ROOM: usize = 12300;
+
+// The vector file is shorter than this.
+const FILE_ROOM: usize = 65536;
 
 // How far the lines of a vector have come: what its last line was. NOTHING: no vector is begun.
 const NOTHING: u8 = 0;
@@ -31,7 +36,7 @@ const BEFORE: u8 = 4;
 const NOWHERE: usize = 0xFFFFFFFFFFFFFFFF;
 
 // What is known of the vector whose lines are being read, and of all before it. A line is held by the place in the file where it begins.
-#[derive(Drop)]
+#[derive(Clone, Copy)]
 pub struct Progress {
     line: usize,
     vectors: usize,
@@ -65,92 +70,105 @@ fn one_more(count: usize) -> usize {
 }
 
 // The line is none that may stand here. What the vector had so far is dropped.
-fn bad_line(progress: Progress) -> Progress {
+fn bad_line(rt: &impl Print, progress: Progress) -> io::Result<Progress> {
     let mut p = progress;
     p.stage = NOTHING;
-    say::bad_line(p.line);
-    p
+    say::bad_line(rt, p.line)?;
+    Ok(p)
 }
 
 // A line `name ..`. Where the vector before it is not whole, that is told here, and the new one goes on.
-fn name_line(progress: Progress, from: usize) -> Progress {
+fn name_line(rt: &impl Print, progress: Progress, from: usize) -> io::Result<Progress> {
     let mut p = progress;
     if p.stage != NOTHING {
-        p = bad_line(p);
+        p = bad_line(rt, p)?;
     }
     p.stage = NAME;
     p.name = from;
     p.times = 1;
     p.before = NOWHERE;
-    p
+    Ok(p)
 }
 
 // A line `print ..` or `points ..`.
-fn print_line(progress: Progress, from: usize, is_points: bool) -> Progress {
+fn print_line(
+    rt: &impl Print,
+    progress: Progress,
+    from: usize,
+    is_points: bool,
+) -> io::Result<Progress> {
     let mut p = progress;
     if p.stage != NAME {
-        return bad_line(p);
+        return bad_line(rt, p);
     }
     p.stage = PRINT;
     p.print = from;
     p.is_points = is_points;
-    p
+    Ok(p)
 }
 
 // A line `times ..`.
-fn times_line(file: &[u8], progress: Progress, from: usize) -> Progress {
+fn times_line(
+    rt: &impl Print,
+    file: &[u8],
+    progress: Progress,
+    from: usize,
+) -> io::Result<Progress> {
     let mut p = progress;
     let times = points::number_in(lines::rest_of(file, from), points::TEN);
     if p.stage != PRINT || times == 0 {
-        return bad_line(p);
+        return bad_line(rt, p);
     }
     p.stage = TIMES;
     p.times = times;
-    p
+    Ok(p)
 }
 
 // A line `before ..`.
-fn before_line(progress: Progress, from: usize) -> Progress {
+fn before_line(rt: &impl Print, progress: Progress, from: usize) -> io::Result<Progress> {
     let mut p = progress;
     if p.stage != PRINT && p.stage != TIMES {
-        return bad_line(p);
+        return bad_line(rt, p);
     }
     p.stage = BEFORE;
     p.before = from;
-    p
+    Ok(p)
 }
 
 // The vector is whole and was run: it is counted and told.
-fn told(progress: Progress, name: &[u8], is_right: bool) -> Progress {
+fn told(rt: &impl Print, progress: Progress, name: &[u8], is_right: bool) -> io::Result<Progress> {
     let mut p = progress;
     p.stage = NOTHING;
     p.vectors = one_more(p.vectors);
     if is_right {
-        say::right(name);
+        say::right(rt, name)?;
     } else {
         p.failed = one_more(p.failed);
     }
-    p
+    Ok(p)
 }
 
 // Runs a vector at its last line: `asked` is the answer that is right, with these cells. A line before it that is not there, or not in its form, makes the last
 // one a bad one.
-fn run_vector(file: &[u8], progress: Progress, asked: Shown, cells: &[u32]) -> Progress {
+fn run_vector(
+    rt: &impl Print,
+    file: &[u8],
+    progress: Progress,
+    asked: Shown,
+    cells: &[u32],
+) -> io::Result<Progress> {
     let mut text = [0u32; ROOM];
     if progress.stage < PRINT {
-        return bad_line(progress);
+        return bad_line(rt, progress);
     }
     let name = lines::rest_of(file, progress.name);
     let print = lines::rest_of(file, progress.print);
     let n = points::put(print, progress.is_points, progress.times, &mut text, 0);
     if ROOM < n {
-        return bad_line(progress);
+        return bad_line(rt, progress);
     }
-    told(
-        progress,
-        name,
-        trials::are_right(name, &text[..n], asked, cells),
-    )
+    let is_right = trials::are_right(rt, name, &text[..n], asked, cells)?;
+    told(rt, progress, name, is_right)
 }
 
 // The refusal that a part asks for: its number and the second number. A part that is not in this form asks for what is never answered.
@@ -163,15 +181,26 @@ fn refusal_in(part: &[u8]) -> Shown {
 }
 
 // A line `no ..`.
-fn no_line(file: &[u8], progress: Progress, from: usize) -> Progress {
+fn no_line(rt: &impl Print, file: &[u8], progress: Progress, from: usize) -> io::Result<Progress> {
     if progress.stage == BEFORE {
-        return bad_line(progress);
+        return bad_line(rt, progress);
     }
-    run_vector(file, progress, refusal_in(lines::rest_of(file, from)), &[])
+    run_vector(
+        rt,
+        file,
+        progress,
+        refusal_in(lines::rest_of(file, from)),
+        &[],
+    )
 }
 
 // A line `cells ..`: behind the cells that stand once before them.
-fn cells_line(file: &[u8], progress: Progress, from: usize) -> Progress {
+fn cells_line(
+    rt: &impl Print,
+    file: &[u8],
+    progress: Progress,
+    from: usize,
+) -> io::Result<Progress> {
     let mut cells = [0u32; ROOM];
     let before = points::put(
         lines::rest_of(file, progress.before),
@@ -188,9 +217,10 @@ fn cells_line(file: &[u8], progress: Progress, from: usize) -> Progress {
         before,
     );
     if ROOM < n {
-        return bad_line(progress);
+        return bad_line(rt, progress);
     }
     run_vector(
+        rt,
         file,
         progress,
         Shown {
@@ -202,45 +232,59 @@ fn cells_line(file: &[u8], progress: Progress, from: usize) -> Progress {
 }
 
 // The line that begins at a place.
-fn take_line(file: &[u8], progress: Progress, from: usize) -> Progress
+fn take_line(rt: &impl Print, file: &[u8], progress: Progress, from: usize) -> io::Result<Progress>
     requires { from < length file.now }
 {
     let word = lines::first_word(file, from);
     match word {
-        lines::FREE => progress,
-        lines::NAME => name_line(progress, from),
-        lines::PRINT => print_line(progress, from, false),
-        lines::POINTS => print_line(progress, from, true),
-        lines::TIMES => times_line(file, progress, from),
-        lines::BEFORE => before_line(progress, from),
-        lines::CELLS => cells_line(file, progress, from),
-        lines::NO => no_line(file, progress, from),
-        _ => bad_line(progress),
+        lines::FREE => Ok(progress),
+        lines::NAME => name_line(rt, progress, from),
+        lines::PRINT => print_line(rt, progress, from, false),
+        lines::POINTS => print_line(rt, progress, from, true),
+        lines::TIMES => times_line(rt, file, progress, from),
+        lines::BEFORE => before_line(rt, progress, from),
+        lines::CELLS => cells_line(rt, file, progress, from),
+        lines::NO => no_line(rt, file, progress, from),
+        _ => bad_line(rt, progress),
     }
 }
 
 // All lines of the file, and the totals.
-fn run(file: &[u8]) {
+fn run(rt: &impl Print, file: &[u8]) -> io::Result<()> {
     let mut progress = at_the_start();
     let mut from = 0;
     while from < file.len() {
         progress.line = one_more(progress.line);
-        progress = take_line(file, progress, from);
+        progress = take_line(rt, file, progress, from)?;
         from = lines::place_of(lines::LINE_FEED, file, from) + 1;
     }
     if progress.stage != NOTHING {
-        progress = bad_line(progress);
+        progress = bad_line(rt, progress)?;
     }
-    say::totals(progress.vectors, progress.failed);
+    say::totals(rt, progress.vectors, progress.failed)
 }
 
-fn main() {
-    // The vector file is shorter than this room, of 65,536 bytes. If it is full, what it has may be the beginning of a longer file.
-    let mut file = io::large_buffer();
-    let n = io::read_full(0, &mut file);
-    if n == file.len() {
-        say::too_long();
-        return;
+// Reads until the room is full or the input ends: how many bytes stand at the room's start.
+fn read_full(reader: &mut impl Read, room: &mut [u8]) -> io::Result<usize>
+    ensures { IfOk result (λ n. n ≤ length room.new) }
+{
+    let mut done = 0;
+    while done < room.len() {
+        let n = reader.read(&mut room[done..])?;
+        if n == 0 {
+            return Ok(done);
+        }
+        done += n;
     }
-    run(&file[..n]);
+    Ok(done)
+}
+
+fn main(rt: HostRuntime) -> io::Result<()> {
+    let mut file = [0u8; FILE_ROOM];
+    let n = read_full(&mut rt.reader(), &mut file)?;
+    // A full room may hold the beginning of a longer file.
+    if n == file.len() {
+        return say::too_long(&rt);
+    }
+    run(&rt, &file[..n])
 }

@@ -1,50 +1,57 @@
 // What is written to standard output.
-use libc::STDOUT_FILENO;
+use std::io;
 
-fn text(bytes: &[u8]) {
-    io::write_all(STDOUT_FILENO, bytes);
+fn text(rt: &impl Print, bytes: &[u8]) -> io::Result<()> {
+    rt.write_all(bytes)
 }
 
 // A number, with a blank before it.
-fn number(n: usize) {
-    text(b" ");
-    io::print_decimal(STDOUT_FILENO, n as u64);
+fn number(rt: &impl Print, n: usize) -> io::Result<()> {
+    text(rt, b" ")?;
+    rt.print(n)
 }
 
 // `ok NAME`
-pub fn right(name: &[u8]) {
-    text(b"ok ");
-    text(name);
-    text(b"\n");
+pub fn right(rt: &impl Print, name: &[u8]) -> io::Result<()> {
+    text(rt, b"ok ")?;
+    text(rt, name)?;
+    text(rt, b"\n")
 }
 
 // `FAILED NAME 12 0 4 3`: the room, the answer's two numbers, and the first place where the row is wrong
-pub fn wrong(name: &[u8], room: usize, answer: usize, second: usize, place: usize) {
-    text(b"FAILED ");
-    text(name);
-    number(room);
-    number(answer);
-    number(second);
-    number(place);
-    text(b"\n");
+pub fn wrong(
+    rt: &impl Print,
+    name: &[u8],
+    room: usize,
+    answer: usize,
+    second: usize,
+    place: usize,
+) -> io::Result<()> {
+    text(rt, b"FAILED ")?;
+    text(rt, name)?;
+    number(rt, room)?;
+    number(rt, answer)?;
+    number(rt, second)?;
+    number(rt, place)?;
+    text(rt, b"\n")
 }
 
 // `BAD LINE N`
-pub fn bad_line(line: usize) {
-    text(b"BAD LINE");
-    number(line);
-    text(b"\n");
+pub fn bad_line(rt: &impl Print, line: usize) -> io::Result<()> {
+    text(rt, b"BAD LINE")?;
+    number(rt, line)?;
+    text(rt, b"\n")
 }
 
 // `N vectors, M failed`
-pub fn totals(vectors: usize, failures: usize) {
-    io::print_decimal(STDOUT_FILENO, vectors as u64);
-    text(b" vectors,");
-    number(failures);
-    text(b" failed\n");
+pub fn totals(rt: &impl Print, vectors: usize, failures: usize) -> io::Result<()> {
+    rt.print(vectors)?;
+    text(rt, b" vectors,")?;
+    number(rt, failures)?;
+    text(rt, b" failed\n")
 }
 
 // The file does not fit.
-pub fn too_long() {
-    text(b"the vectors are too long to be read whole\n");
+pub fn too_long(rt: &impl Print) -> io::Result<()> {
+    text(rt, b"the vectors are too long to be read whole\n")
 }

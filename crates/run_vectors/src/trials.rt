@@ -3,6 +3,7 @@ ghost use Rattle.std.specs.Prelude.{◌≤◌, ◌<◌, length};
 
 use crate::say;
 use desk::Shown;
+use std::io;
 
 // The number of an answer that is no refusal, and of "the answer needs more room than lent".
 pub const DONE: usize = 0;
@@ -57,33 +58,55 @@ fn first_difference(row: &[u8], cells: &[u32]) -> usize {
 }
 
 // One call, with the row as the room. What is not right is told.
-fn is_right_in(name: &[u8], text: &[u32], asked: Shown, cells: &[u32], row: &mut [u8]) -> bool {
+fn is_right_in(
+    rt: &impl Print,
+    name: &[u8],
+    text: &[u32],
+    asked: Shown,
+    cells: &[u32],
+    row: &mut [u8],
+) -> io::Result<bool> {
     let got = desk::desk_transcribe(text, row);
     let number = number_at(asked, row.len());
     let place = first_difference(row, written(cells, number));
     if got.number == number && got.second == asked.second && place == row.len() {
-        return true;
+        return Ok(true);
     }
-    say::wrong(name, row.len(), got.number, got.second, place);
-    false
+    say::wrong(rt, name, row.len(), got.number, got.second, place)?;
+    Ok(false)
 }
 
 // One call, with so much room. (There is no more than MOST_ROOM.)
-fn is_right_at(name: &[u8], text: &[u32], asked: Shown, cells: &[u32], room: usize) -> bool {
+fn is_right_at(
+    rt: &impl Print,
+    name: &[u8],
+    text: &[u32],
+    asked: Shown,
+    cells: &[u32],
+    room: usize,
+) -> io::Result<bool> {
     let mut row = [UNTOUCHED; MOST_ROOM];
     if MOST_ROOM < room {
-        return true;
+        return Ok(true);
     }
-    is_right_in(name, text, asked, cells, &mut row[..room])
+    is_right_in(rt, name, text, asked, cells, &mut row[..room])
 }
 
 // All trials of a vector, up to the first that fails. Print that is refused has no cells here.
-pub fn are_right(name: &[u8], text: &[u32], asked: Shown, cells: &[u32]) -> bool {
+pub fn are_right(
+    rt: &impl Print,
+    name: &[u8],
+    text: &[u32],
+    asked: Shown,
+    cells: &[u32],
+) -> io::Result<bool> {
     let n = cells.len();
     let short = if 0 < n { n - 1 } else { 0 };
-    is_right_at(name, text, asked, cells, 0)
-        && is_right_at(name, text, asked, cells, short)
-        && is_right_at(name, text, asked, cells, n)
-        && is_right_at(name, text, asked, cells, n + 1)
-        && is_right_at(name, text, asked, cells, MOST_ROOM)
+    Ok(
+        is_right_at(rt, name, text, asked, cells, 0)?
+            && is_right_at(rt, name, text, asked, cells, short)?
+            && is_right_at(rt, name, text, asked, cells, n)?
+            && is_right_at(rt, name, text, asked, cells, n + 1)?
+            && is_right_at(rt, name, text, asked, cells, MOST_ROOM)?,
+    )
 }
