@@ -77,7 +77,13 @@ fn tell_row(rt: &impl Print, line: &[u8], row: &[u8]) -> io::Result<()> {
     let mut back = [BLANK; CELLS_ROOM];
     let answer = trial::tried(rt, row, &mut text, &mut back)?;
     say::name(rt, line)?;
-    say::answer_and_text(rt, answer.number, answer.second, &text, trial::written(answer))
+    say::answer_and_text(
+        rt,
+        answer.number,
+        answer.second,
+        &text,
+        trial::written(answer),
+    )
 }
 
 // A line: its row is tried.

@@ -165,7 +165,12 @@ fn check_text(rt: &impl Print, text: &[u32], rows: &mut [u8]) -> io::Result<()> 
 }
 
 // Every text of two code points that begins with this one.
-fn check_texts_from(rt: &impl Print, first: u32, points: &[u32], rows: &mut [u8]) -> io::Result<()> {
+fn check_texts_from(
+    rt: &impl Print,
+    first: u32,
+    points: &[u32],
+    rows: &mut [u8],
+) -> io::Result<()> {
     let mut i = 0;
     while i < points.len() {
         let text = [first, points[i]];
