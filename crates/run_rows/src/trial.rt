@@ -27,7 +27,7 @@ const PLACES_ASKED: usize = 64;
 const PLACES_PAST: usize = 3;
 
 // Where a walk is: the place where the next sign is to start, and how much of the text is shown.
-#[derive(Drop)]
+#[derive(Clone, Copy)]
 pub struct Walk {
     pub due: usize,
     pub shown: usize,
