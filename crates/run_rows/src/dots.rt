@@ -3,6 +3,7 @@ ghost use Rattle.std.specs.Prelude.{◌≤◌, length};
 
 use crate::trial::UNTOUCHED;
 use crate::{say, trial};
+use std::io;
 
 const LINE_FEED: u8 = 10;
 
@@ -71,34 +72,40 @@ fn put_cells(line: &[u8], row: &mut [u8]) -> usize {
 }
 
 // Tries the row of a line, and tells the answer and the text.
-fn tell_row(line: &[u8], row: &[u8]) {
+fn tell_row(rt: &impl Print, line: &[u8], row: &[u8]) -> io::Result<()> {
     let mut text = [UNTOUCHED; TEXT_ROOM];
     let mut back = [BLANK; CELLS_ROOM];
-    let answer = trial::tried(row, &mut text, &mut back);
-    say::name(line);
-    say::answer_and_text(answer.number, answer.second, &text, trial::written(answer));
+    let answer = trial::tried(rt, row, &mut text, &mut back)?;
+    say::name(rt, line)?;
+    say::answer_and_text(
+        rt,
+        answer.number,
+        answer.second,
+        &text,
+        trial::written(answer),
+    )
 }
 
 // A line: its row is tried.
-fn tell_line(file: &[u8], from: usize, to: usize)
+fn tell_line(rt: &impl Print, file: &[u8], from: usize, to: usize) -> io::Result<()>
     requires { (from ≤ to) × (to ≤ length file.now) }
 {
     let mut row = [BLANK; CELLS_ROOM];
     let line = &file[from..to];
     let count = put_cells(line, &mut row);
     if CELLS_ROOM < count {
-        say::too_long();
-        return;
+        return say::too_long(rt);
     }
-    tell_row(line, &row[..count]);
+    tell_row(rt, line, &row[..count])
 }
 
 // Every line.
-pub fn run(file: &[u8]) {
+pub fn run(rt: &impl Print, file: &[u8]) -> io::Result<()> {
     let mut from = 0;
     while from < file.len() {
         let to = line_end(file, from);
-        tell_line(file, from, to);
+        tell_line(rt, file, from, to)?;
         from = to + 1;
     }
+    Ok(())
 }

@@ -3,6 +3,7 @@ ghost use Rattle.std.specs.Prelude.{◌≤◌, length};
 
 use crate::trial::UNTOUCHED;
 use crate::{say, trial};
+use std::io;
 
 // "a row above 12,288 cells", "a text above 4,096": each line, and one past it.
 const LONGEST_ROW: usize = 12288;
@@ -46,82 +47,89 @@ const MOST_ROOM: usize = 4;
 const ABC_TEXT: usize = 8;
 
 // Tries a row, with room for the longest text and one more.
-fn answer_to(row: &[u8]) -> desk::Shown {
+fn answer_to(rt: &impl Print, row: &[u8]) -> io::Result<desk::Shown> {
     let mut text = [UNTOUCHED; TEXT_ROOM];
     let mut back = [BLANK; LONGEST_ROW];
-    trial::tried(row, &mut text, &mut back)
+    trial::tried(rt, row, &mut text, &mut back)
 }
 
 // Tries a row and tells the answer.
-fn tell(row: &[u8]) {
-    let answer = answer_to(row);
-    say::cells(row);
-    say::answer(answer.number, answer.second);
+fn tell(rt: &impl Print, row: &[u8]) -> io::Result<()> {
+    let answer = answer_to(rt, row)?;
+    say::cells(rt, row)?;
+    say::answer(rt, answer.number, answer.second)
 }
 
 // ---- lengths
 
 // A row of one cell, repeated.
-fn tell_repeated(cell: u8, count: usize) {
+fn tell_repeated(rt: &impl Print, cell: u8, count: usize) -> io::Result<()> {
     let row = [cell; ROW_ROOM];
     if count <= ROW_ROOM {
-        tell(&row[..count]);
+        tell(rt, &row[..count])?;
     }
+    Ok(())
 }
 
 // The longest row: as many ‰ as a text may have.
-fn tell_per_mille() {
+fn tell_per_mille(rt: &impl Print) -> io::Result<()> {
     let mut row = [D356; LONGEST_ROW];
     let mut i = 0;
     while i < LONGEST_ROW {
         row[i] = D456;
         i += MILLE_CELLS;
     }
-    tell(&row);
+    tell(rt, &row)
 }
 
 // "above 12,288 cells is 1, then 7"
-fn tell_long_with_high() {
+fn tell_long_with_high(rt: &impl Print) -> io::Result<()> {
     let mut row = [D1; ROW_ROOM];
     row[0] = FIRST_HIGH;
-    tell(&row);
+    tell(rt, &row)
 }
 
-fn lengths() {
-    tell_repeated(BLANK, 0);
-    tell_repeated(BLANK, LONGEST_ROW);
-    tell_repeated(BLANK, ROW_ROOM);
-    tell_repeated(D1, LONGEST_TEXT);
-    tell_repeated(D1, TEXT_ROOM);
-    tell_per_mille();
-    tell_long_with_high();
+fn lengths(rt: &impl Print) -> io::Result<()> {
+    tell_repeated(rt, BLANK, 0)?;
+    tell_repeated(rt, BLANK, LONGEST_ROW)?;
+    tell_repeated(rt, BLANK, ROW_ROOM)?;
+    tell_repeated(rt, D1, LONGEST_TEXT)?;
+    tell_repeated(rt, D1, TEXT_ROOM)?;
+    tell_per_mille(rt)?;
+    tell_long_with_high(rt)
 }
 
 // ---- bytes
 
 // Five cells, of which the first and the last are given.
-fn tell_five(first: u8, last: u8) {
+fn tell_five(rt: &impl Print, first: u8, last: u8) -> io::Result<()> {
     let row = [first, D1, D1, D1, last];
-    tell(&row);
+    tell(rt, &row)
 }
 
-fn bytes() {
-    tell_five(FIRST_HIGH, D1);
-    tell_five(D1, FIRST_HIGH);
-    tell_five(LAST_HIGH, D1);
-    tell_five(D1, LAST_HIGH);
-    tell_five(D123456, D1);
-    tell_five(D123456, FIRST_HIGH);
-    tell_five(FIRST_HIGH, LAST_HIGH);
+fn bytes(rt: &impl Print) -> io::Result<()> {
+    tell_five(rt, FIRST_HIGH, D1)?;
+    tell_five(rt, D1, FIRST_HIGH)?;
+    tell_five(rt, LAST_HIGH, D1)?;
+    tell_five(rt, D1, LAST_HIGH)?;
+    tell_five(rt, D123456, D1)?;
+    tell_five(rt, D123456, FIRST_HIGH)?;
+    tell_five(rt, FIRST_HIGH, LAST_HIGH)
 }
 
 // ---- room
 
 // Tries a row with the part of a text from MARGIN to an end.
-fn tried_within(row: &[u8], text: &mut [u32], end: usize, back: &mut [u8]) -> desk::Shown
+fn tried_within(
+    rt: &impl Print,
+    row: &[u8],
+    text: &mut [u32],
+    end: usize,
+    back: &mut [u8],
+) -> io::Result<desk::Shown>
     requires { (2 ≤ end) × (end ≤ length text.old) }
 {
-    trial::tried(row, &mut text[MARGIN..end], back)
+    trial::tried(rt, row, &mut text[MARGIN..end], back)
 }
 
 // Is what stands before MARGIN and from the end on as it was?
@@ -133,31 +141,31 @@ fn is_untouched_around(text: &[u32], end: usize) -> bool {
 }
 
 // "abc", read to the middle of a text: the room is lent, and what stands before and behind it is then as it was.
-fn tell_room(room: usize) {
+fn tell_room(rt: &impl Print, room: usize) -> io::Result<()> {
     let row = [D1, D12, D14];
     let mut text = [UNTOUCHED; ABC_TEXT];
     let mut back = [BLANK; ABC];
     if MOST_ROOM < room {
-        return;
+        return Ok(());
     }
     let end = MARGIN + room;
-    let answer = tried_within(&row, &mut text, end, &mut back);
+    let answer = tried_within(rt, &row, &mut text, end, &mut back)?;
     if !is_untouched_around(&text, end) {
-        say::disagrees(b"an element outside the room is touched", &row);
+        say::disagrees(rt, b"an element outside the room is touched", &row)?;
     }
-    say::room(room);
-    say::answer(answer.number, answer.second);
+    say::room(rt, room)?;
+    say::answer(rt, answer.number, answer.second)
 }
 
-fn rooms() {
-    tell_room(0);
-    tell_room(ABC - 1);
-    tell_room(ABC);
-    tell_room(MOST_ROOM);
+fn rooms(rt: &impl Print) -> io::Result<()> {
+    tell_room(rt, 0)?;
+    tell_room(rt, ABC - 1)?;
+    tell_room(rt, ABC)?;
+    tell_room(rt, MOST_ROOM)
 }
 
-pub fn run() {
-    lengths();
-    bytes();
-    rooms();
+pub fn run(rt: &impl Print) -> io::Result<()> {
+    lengths(rt)?;
+    bytes(rt)?;
+    rooms(rt)
 }

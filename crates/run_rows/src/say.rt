@@ -1,109 +1,118 @@
-// What is written to standard output.
-use libc::STDOUT_FILENO;
+// What is written to standard output. A write that fails is an error, which each of these functions passes on.
+use std::io;
 
 // So many cells of a row are shown.
 const CELLS_SHOWN: usize = 8;
 
-fn text(bytes: &[u8]) {
-    io::write_all(STDOUT_FILENO, bytes);
+fn text(rt: &impl Print, bytes: &[u8]) -> io::Result<()> {
+    rt.write_all(bytes)
 }
 
 // A number, with a blank before it.
-fn number(n: usize) {
-    text(b" ");
-    io::print_decimal(STDOUT_FILENO, n as u64);
+fn number(rt: &impl Print, n: usize) -> io::Result<()> {
+    text(rt, b" ")?;
+    rt.print(n)
 }
 
-fn cell(byte: u8) {
-    number(byte as usize);
+fn cell(rt: &impl Print, byte: u8) -> io::Result<()> {
+    number(rt, byte as usize)
 }
 
 // `NAME: N`
-pub fn count(of: &[u8], n: usize) {
-    text(of);
-    text(b":");
-    number(n);
-    text(b"\n");
+pub fn count(rt: &impl Print, of: &[u8], n: usize) -> io::Result<()> {
+    text(rt, of)?;
+    text(rt, b":")?;
+    number(rt, n)?;
+    text(rt, b"\n")
 }
 
 // The first cells of a row, as bytes.
-fn first_cells(row: &[u8]) {
+fn first_cells(rt: &impl Print, row: &[u8]) -> io::Result<()> {
     let mut i = 0;
     while i < row.len() {
         if CELLS_SHOWN <= i {
-            return;
+            return Ok(());
         }
-        cell(row[i]);
+        cell(rt, row[i])?;
         i += 1;
     }
+    Ok(())
 }
 
 // The name of a row: what is given; `cells 5: 64 1 1 1 1`, its length and its first cells; or `room 3`, for "abc".
-pub fn name(given: &[u8]) {
-    text(given);
+pub fn name(rt: &impl Print, given: &[u8]) -> io::Result<()> {
+    text(rt, given)
 }
 
-pub fn cells(row: &[u8]) {
-    text(b"cells");
-    number(row.len());
-    text(b":");
-    first_cells(row);
+pub fn cells(rt: &impl Print, row: &[u8]) -> io::Result<()> {
+    text(rt, b"cells")?;
+    number(rt, row.len())?;
+    text(rt, b":")?;
+    first_cells(rt, row)
 }
 
-pub fn room(n: usize) {
-    text(b"room");
-    number(n);
+pub fn room(rt: &impl Print, n: usize) -> io::Result<()> {
+    text(rt, b"room")?;
+    number(rt, n)
 }
 
-fn numbers(first: usize, second: usize) {
-    text(b" ->");
-    number(first);
-    number(second);
+fn numbers(rt: &impl Print, first: usize, second: usize) -> io::Result<()> {
+    text(rt, b" ->")?;
+    number(rt, first)?;
+    number(rt, second)
 }
 
-fn point(code_point: u32) {
-    number(code_point as usize);
+fn point(rt: &impl Print, code_point: u32) -> io::Result<()> {
+    number(rt, code_point as usize)
 }
 
 // The code point at a place. (Past the end there is none.)
-fn point_at(points: &[u32], place: usize) {
+fn point_at(rt: &impl Print, points: &[u32], place: usize) -> io::Result<()> {
     if place < points.len() {
-        point(points[place]);
+        point(rt, points[place])?;
     }
+    Ok(())
 }
 
 // The first code points of a text, in decimal.
-fn first_points(points: &[u32], count: usize) {
+fn first_points(rt: &impl Print, points: &[u32], count: usize) -> io::Result<()> {
     let mut i = 0;
     while i < count {
-        point_at(points, i);
+        point_at(rt, points, i)?;
         i += 1;
     }
+    Ok(())
 }
 
 // ` -> 8 0`, behind a name
-pub fn answer(first: usize, second: usize) {
-    numbers(first, second);
-    text(b"\n");
+pub fn answer(rt: &impl Print, first: usize, second: usize) -> io::Result<()> {
+    numbers(rt, first, second)?;
+    text(rt, b"\n")
 }
 
 // ` -> 0 2 49 46`, behind a name: the answer, and of what was lent so many code points
-pub fn answer_and_text(first: usize, second: usize, points: &[u32], count: usize) {
-    numbers(first, second);
-    first_points(points, count);
-    text(b"\n");
+pub fn answer_and_text(
+    rt: &impl Print,
+    first: usize,
+    second: usize,
+    points: &[u32],
+    count: usize,
+) -> io::Result<()> {
+    numbers(rt, first, second)?;
+    first_points(rt, points, count)?;
+    text(rt, b"\n")
 }
 
 // `DISAGREES: WHAT, cells 2: 40 1`
-pub fn disagrees(what: &[u8], row: &[u8]) {
-    text(b"DISAGREES: ");
-    text(what);
-    text(b", ");
-    cells(row);
-    text(b"\n");
+pub fn disagrees(rt: &impl Print, what: &[u8], row: &[u8]) -> io::Result<()> {
+    text(rt, b"DISAGREES: ")?;
+    text(rt, what)?;
+    text(rt, b", ")?;
+    cells(rt, row)?;
+    text(rt, b"\n")
 }
 
 // Standard input, or a line of it, does not fit.
-pub fn too_long() {
-    text(b"DISAGREES: standard input is too long\n");
+pub fn too_long(rt: &impl Print) -> io::Result<()> {
+    text(rt, b"DISAGREES: standard input is too long\n")
 }

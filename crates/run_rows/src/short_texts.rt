@@ -3,6 +3,7 @@ ghost use Rattle.std.specs.Prelude.{◌≤◌, length};
 
 use crate::short_rows::SMALL_ROOM;
 use crate::{say, trial};
+use std::io;
 
 // No code point above this has a sign.
 const LAST_POINT: u32 = 0xFFFF;
@@ -135,65 +136,76 @@ fn written_between(rows: &[u8], from: usize, to: usize) -> usize {
 // ---- the texts
 
 // The row of a text: reading gives the text back, normalised.
-fn check_row(row: &[u8], text: &[u32], rows: &mut [u8]) {
+fn check_row(rt: &impl Print, row: &[u8], text: &[u32], rows: &mut [u8]) -> io::Result<()> {
     let mut read = [trial::UNTOUCHED; SMALL_ROOM];
     let mut back = [0u8; SMALL_ROOM];
-    let answer = trial::tried(row, &mut read, &mut back);
+    let answer = trial::tried(rt, row, &mut read, &mut back)?;
     if !is_normal_of(&read, trial::written(answer), text) {
-        say::disagrees(b"another text is read than was written", row);
+        say::disagrees(rt, b"another text is read than was written", row)?;
     }
     let number = number_of(row);
     if number < rows.len() {
         rows[number] = WRITTEN;
     }
+    Ok(())
 }
 
 // A text, if it is written in one cell or two.
-fn check_text(text: &[u32], rows: &mut [u8]) {
+fn check_text(rt: &impl Print, text: &[u32], rows: &mut [u8]) -> io::Result<()> {
     let mut row = [0u8; SMALL_ROOM];
     let answer = desk::numbers(transcriber::transcribe(text, &mut row));
     if answer.number != trial::DONE {
-        return;
+        return Ok(());
     }
     let count = answer.second;
     if count <= MOST_CELLS {
-        check_row(&row[..count], text, rows);
+        check_row(rt, &row[..count], text, rows)?;
     }
+    Ok(())
 }
 
 // Every text of two code points that begins with this one.
-fn check_texts_from(first: u32, points: &[u32], rows: &mut [u8]) {
+fn check_texts_from(
+    rt: &impl Print,
+    first: u32,
+    points: &[u32],
+    rows: &mut [u8],
+) -> io::Result<()> {
     let mut i = 0;
     while i < points.len() {
         let text = [first, points[i]];
-        check_text(&text, rows);
+        check_text(rt, &text, rows)?;
         i += 1;
     }
+    Ok(())
 }
 
 // Every text of one code point and of two.
-fn check_texts(points: &[u32], rows: &mut [u8]) {
+fn check_texts(rt: &impl Print, points: &[u32], rows: &mut [u8]) -> io::Result<()> {
     let mut i = 0;
     while i < points.len() {
         let text = [points[i]; 1];
-        check_text(&text, rows);
-        check_texts_from(points[i], points, rows);
+        check_text(rt, &text, rows)?;
+        check_texts_from(rt, points[i], points, rows)?;
         i += 1;
     }
+    Ok(())
 }
 
-pub fn run() {
+pub fn run(rt: &impl Print) -> io::Result<()> {
     let mut points = [0u32; SIGNS_ROOM];
     let mut rows = [0u8; ROWS];
     let signs = find_signs(&mut points);
-    check_texts(&points[..signs], &mut rows);
-    say::count(b"code points with a sign", signs);
+    check_texts(rt, &points[..signs], &mut rows)?;
+    say::count(rt, b"code points with a sign", signs)?;
     say::count(
+        rt,
         b"rows of one cell that are written",
         written_between(&rows, 0, ROWS_OF_ONE),
-    );
+    )?;
     say::count(
+        rt,
         b"rows of two cells that are written",
         written_between(&rows, ROWS_OF_ONE, ROWS),
-    );
+    )
 }

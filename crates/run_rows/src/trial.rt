@@ -2,6 +2,7 @@
 ghost use Rattle.std.specs.Prelude.{◌≤◌};
 
 use crate::say;
+use std::io;
 use stepper::Shown;
 
 // The numbers of paper 01's table that are told apart here. An answer's numbers are those that the desk shows.
@@ -26,7 +27,7 @@ const PLACES_ASKED: usize = 64;
 const PLACES_PAST: usize = 3;
 
 // Where a walk is: the place where the next sign is to start, and how much of the text is shown.
-#[derive(Drop)]
+#[derive(Clone, Copy)]
 pub struct Walk {
     pub due: usize,
     pub shown: usize,
@@ -211,42 +212,49 @@ fn is_refused(row: &[u8], number: usize, second: usize) -> bool {
 // ---- one row
 
 // A row that was read: it is the row of the text, and its steps show the text.
-fn check_read(row: &[u8], text: &[u32], back: &mut [u8]) {
+fn check_read(rt: &impl Print, row: &[u8], text: &[u32], back: &mut [u8]) -> io::Result<()> {
     if !gives_back(text, row, back) {
-        say::disagrees(b"the text has another row", row);
+        say::disagrees(rt, b"the text has another row", row)?;
     }
     if !is_walked(row, text) {
-        say::disagrees(b"the steps show another text", row);
+        say::disagrees(rt, b"the steps show another text", row)?;
     }
+    Ok(())
 }
 
 // A row that was refused: "A row that isn't accepted is refused as reading refuses it, but never with 6".
-fn check_refused(row: &[u8], refusal: desk::Shown) {
+fn check_refused(rt: &impl Print, row: &[u8], refusal: desk::Shown) -> io::Result<()> {
     let as_due = if refusal.number == NEEDS_ROOM {
         is_refused(row, DONE, 0)
     } else {
         is_refused(row, refusal.number, refusal.second)
     };
     if !as_due {
-        say::disagrees(b"a step is refused otherwise", row);
+        say::disagrees(rt, b"a step is refused otherwise", row)?;
     }
+    Ok(())
 }
 
 // Reads a row and holds what it finds to the transcriber and to the steps. `text` is untouched, and `back` has room for the row.
-pub fn tried(row: &[u8], text: &mut [u32], back: &mut [u8]) -> desk::Shown {
+pub fn tried(
+    rt: &impl Print,
+    row: &[u8],
+    text: &mut [u32],
+    back: &mut [u8],
+) -> io::Result<desk::Shown> {
     let answer = desk::read_numbers(reader::read(row, text));
     let count = written(answer);
     if text.len() < count {
-        say::disagrees(b"a count above what was lent", row);
-        return answer;
+        say::disagrees(rt, b"a count above what was lent", row)?;
+        return Ok(answer);
     }
     if !is_untouched(text, count, text.len()) {
-        say::disagrees(b"an element behind the text is touched", row);
+        say::disagrees(rt, b"an element behind the text is touched", row)?;
     }
     if answer.number == DONE {
-        check_read(row, &text[..count], back);
+        check_read(rt, row, &text[..count], back)?;
     } else {
-        check_refused(row, answer);
+        check_refused(rt, row, answer)?;
     }
-    answer
+    Ok(answer)
 }

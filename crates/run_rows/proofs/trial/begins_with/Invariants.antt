@@ -1,0 +1,10 @@
+-- `run_rows::trial::begins_with` is safe and ends. The invariant: the place is within the row. The measure is what is left of it. Assumes
+-- nothing.
+use Rattle.std.proofs.Common.{◌-◌, ◌≤◌, length}
+use Rattle.run_rows.proofs.trial.begins_with.Given as goal
+
+abbrev pub invariant-loop-i : goal.invariant-loop-i
+invariant-loop-i l = l.i ≤ length l.row
+
+abbrev pub decreases-loop-i : goal.decreases-loop-i
+decreases-loop-i l = length l.row - l.i
