@@ -37,14 +37,14 @@ cat <<'TEXT'
 -- Printed by tools/print-entries-proof.sh: change that.
 -- `list::word_of`: at each key antt computes both sides; any other code point is none of the sign list's, and none that is looked up as another
 -- (`none_of`). Assumes nothing.
-use mathlib.Core.Path.{◌≡◌, sym, ap}
-use mathlib.Core.Bool.{Bool, false, ◌||◌, not}
+use mathlib.Core.Path.{sym, ap}
+use mathlib.Core.Bool.{Bool, ◌||◌, not}
 use mathlib.Core.List.{List, [], ◌∷◌}
 use Prim.Native.Nat.{ℕ}
 use Rattle.std.proofs.Common.{rules}
 use Rattle.rules.specs.Castilian.{castilian}
 use Rattle.rules.specs.Cells.{dots}
-use Rattle.rules.specs.Sorts.{no_sign, class, is_digit_cell}
+use Rattle.rules.specs.Sorts.{class, is_digit_cell}
 use Rattle.rules.specs.Signs.{own_cells, lower_cells}
 use Rattle.rules.specs.Pairs.{mark_of}
 use Rattle.rules.specs.Rows.{sort_in}
@@ -62,10 +62,6 @@ cat <<TEXT
 abbrev listed : ℕ → Bool
 listed k = among low k || among far k
 
-unlisted : (c : ℕ) → listed c ≡ false → word no_sign ≡ entry_of castilian (one_for c)
-unfolding low far $unfold
-unlisted c e = none_of listed c tt tt e
-
 TEXT
 
 # Those without a sign that stand in an arm, which the first of them names.
@@ -78,7 +74,7 @@ pub returns-$arm : goal.returns-$arm
 unfolding low far $parity $unfold
 returns-$arm c =
     let p : ℕ = c.args.point in
-    unlisted p (false_of (listed p) (told_of (λ k. not (listed k)) $parity p tt c.$arm.is))
+    none_of listed p tt tt (false_of (listed p) (told_of (λ k. not (listed k)) $parity p tt c.$arm.is))
 
 TEXT
 done
@@ -88,7 +84,7 @@ pub returns-in_default-point : goal.returns-in_default-point
 unfolding low far $unfold
 returns-in_default-point c =
     let p : ℕ = c.args.point in
-    unlisted p (rw ((rest_none Unit low p (search rules)).1, (rest_none Unit far p (search rules)).1))
+    none_of listed p tt tt (rw ((rest_none Unit low p (search rules)).1, (rest_none Unit far p (search rules)).1))
 TEXT
 
 # The keys from 256 on, by their numbers.

@@ -1,14 +1,14 @@
 -- Printed by tools/print-entries-proof.sh: change that.
 -- `list::word_of`: at each key antt computes both sides; any other code point is none of the sign list's, and none that is looked up as another
 -- (`none_of`). Assumes nothing.
-use mathlib.Core.Path.{◌≡◌, sym, ap}
-use mathlib.Core.Bool.{Bool, false, ◌||◌, not}
+use mathlib.Core.Path.{sym, ap}
+use mathlib.Core.Bool.{Bool, ◌||◌, not}
 use mathlib.Core.List.{List, [], ◌∷◌}
 use Prim.Native.Nat.{ℕ}
 use Rattle.std.proofs.Common.{rules}
 use Rattle.rules.specs.Castilian.{castilian}
 use Rattle.rules.specs.Cells.{dots}
-use Rattle.rules.specs.Sorts.{no_sign, class, is_digit_cell}
+use Rattle.rules.specs.Sorts.{class, is_digit_cell}
 use Rattle.rules.specs.Signs.{own_cells, lower_cells}
 use Rattle.rules.specs.Pairs.{mark_of}
 use Rattle.rules.specs.Rows.{sort_in}
@@ -37,10 +37,6 @@ far =
 abbrev listed : ℕ → Bool
 listed k = among low k || among far k
 
-unlisted : (c : ℕ) → listed c ≡ false → word no_sign ≡ entry_of castilian (one_for c)
-unfolding low far one_for entry_of word then_of usuals_of usual_states bits mark_number sign_of sort_in castilian class is_digit_cell own_cells lower_cells mark_of dots
-unlisted c e = none_of listed c tt tt e
-
 even : List ℕ
 even =
     0x0 ∷ 0x2 ∷ 0x4 ∷ 0x6 ∷ 0x8 ∷ 0xa ∷ 0xc ∷ 0xe ∷ 0x10 ∷ 0x12 ∷ 0x14 ∷ 0x16 ∷ 0x18 ∷ 0x1a ∷ 0x1c ∷ 0x1e ∷ 0x22 ∷ 0x2a
@@ -53,7 +49,7 @@ pub returns-in-0 : goal.returns-in-0
 unfolding low far even one_for entry_of word then_of usuals_of usual_states bits mark_number sign_of sort_in castilian class is_digit_cell own_cells lower_cells mark_of dots
 returns-in-0 c =
     let p : ℕ = c.args.point in
-    unlisted p (false_of (listed p) (told_of (λ k. not (listed k)) even p tt c.in-0.is))
+    none_of listed p tt tt (false_of (listed p) (told_of (λ k. not (listed k)) even p tt c.in-0.is))
 
 odd : List ℕ
 odd =
@@ -67,13 +63,13 @@ pub returns-in-1 : goal.returns-in-1
 unfolding low far odd one_for entry_of word then_of usuals_of usual_states bits mark_number sign_of sort_in castilian class is_digit_cell own_cells lower_cells mark_of dots
 returns-in-1 c =
     let p : ℕ = c.args.point in
-    unlisted p (false_of (listed p) (told_of (λ k. not (listed k)) odd p tt c.in-1.is))
+    none_of listed p tt tt (false_of (listed p) (told_of (λ k. not (listed k)) odd p tt c.in-1.is))
 
 pub returns-in_default-point : goal.returns-in_default-point
 unfolding low far one_for entry_of word then_of usuals_of usual_states bits mark_number sign_of sort_in castilian class is_digit_cell own_cells lower_cells mark_of dots
 returns-in_default-point c =
     let p : ℕ = c.args.point in
-    unlisted p (rw ((rest_none Unit low p (search rules)).1, (rest_none Unit far p (search rules)).1))
+    none_of listed p tt tt (rw ((rest_none Unit low p (search rules)).1, (rest_none Unit far p (search rules)).1))
 
 pub returns-in-8212 : goal.returns-in-8212
 unfolding one_for entry_of word then_of usuals_of usual_states bits mark_number sign_of sort_in castilian class is_digit_cell own_cells lower_cells mark_of dots
