@@ -18,21 +18,21 @@ cat <<TEXT
 // Printed by tools/$printer from $table: change that, and print it again. The check compares it with the rules.
 // $what: 16 rows of 16. Where there is no row or no class of a number,
 // there is no sign.
+ghost use Rattle.std.specs.Prelude.{◌≡◌, ◌<◌, get_or};
+ghost use Rattle.$crate.specs.Acts.{no_sign};
+ghost use Rattle.$crate.specs.Deeds.{deeds, deed_count};
+
 TEXT
 
-printf '%s\n' "$places" | awk -F '\t' '{ print "use crate::" $3 ";" }' | sort -u
+printf '%s\n' "$places" | awk -F '\t' '{ print $3 }' | sh tools/imports.sh
 
-cat <<TEXT
-ghost use mathlib.Core.Path.{_≡_};
-ghost use Prim.Native.Nat.{_<_};
-ghost use lib.ListN.{getD};
-ghost use Rattle·$crate·specs.specs.Acts.{noSign};
-ghost use Rattle·$crate·specs.specs.Deeds.{deeds, deedCount};
+cat <<'TEXT'
 
 // There is no other place in the table than these.
+#[tactic(auto, unfolding(crate::specs::Deeds::deeds))]
 pub fn deed_at(place: usize) -> usize
-    requires { ⌜ place < deedCount ⌝ }
-    ensures { λ r. ⌜ r ≡ getD deeds place noSign ⌝ }
+    requires { place < deed_count }
+    ensures { result ≡ get_or deeds place no_sign }
 {
     match place {
 TEXT

@@ -3,9 +3,9 @@
 #     PLACE STATE DEED CLASS
 #     48 NUMBER SEPARATED_LETTER a to j
 #
-# tools/print-deeds.sh, tools/print-deed-list.sh and tools/print-deeds-proof.sh print from these lines. A line that cannot be
-# read is refused, and so is a table in which a class has no deed in some state, or two. A place of no state or of no class
-# has NO_SIGN: with all 256 there, the compiled look-up has nothing to test.
+# tools/print-deeds.sh and tools/print-deed-list.sh print from these lines. A line that cannot be read is refused, and so is a
+# table in which a class has no deed in some state, or two. A place of no state or of no class has NO_SIGN: with all 256 there,
+# the compiled look-up has nothing to test.
 #
 # Run it from the top of the repository with LC_ALL=C: awk -f tools/deeds.awk tools/deeds.txt
 

@@ -20,19 +20,19 @@ cat <<'TEXT'
 // Printed by tools/print-cells.sh from crates/rules/specs/Castilian.antt and tools/readings.txt: change those, and print it again.
 // What a cell may be: its word, by its fields; and its word as the second of a sign of two, which begins with a cell that is none by itself. The check compares
 // what is read at each with the rules.
+ghost use Rattle.std.specs.Prelude.{◌≡◌};
+ghost use Rattle.readings.specs.Fields.{point_in, capital_in, letter_in, inside_in, run_in};
+ghost use Rattle.readings.specs.Words.{word_of, second_of};
+
 TEXT
 
-# In the order of the layout: an underscore goes before a letter.
 {
     for name in CAPITAL_AT CLASS_AT FIGURE_AT FREE KIND_AT LOWER_AT MIXED NO_POINT POINT_AT POINT_BITS RUN_BETWEEN RUN_CAPITAL RUN_FIGURE RUN_LOWER THEN_AT USUAL_AT; do echo "$name"; done
     printf '%s\n' "$cells" | awk -F '\t' '$1 != "two" { print $3 }'
     printf '%s\n' "$places" | awk -F '\t' '$3 == "AS_USUAL" { print $2 }'
-} | tr _ ' ' | sort -u | tr ' ' _ | sed 's/.*/use crate::&;/'
+} | sh tools/imports.sh
 
 cat <<'TEXT'
-ghost use mathlib.Core.Path.{_≡_};
-ghost use Rattle·readings·specs.specs.Fields.{pointIn, capitalIn, letterIn, insideIn, runIn};
-ghost use Rattle·readings·specs.specs.Words.{wordOf, secondOf};
 
 // The cells, by their dots.
 TEXT
@@ -88,8 +88,9 @@ $1 != "two" && $3 != "NOTHING" {
 cat <<'TEXT'
 // The word of a cell; that of a byte that is none begins no sign. (For the first cell of a sign. It has one caller, so that the compiler draws it into the
 // loop, and every byte is named, so that it reads a table there and asks nothing first; the look-ups below are for the cells that follow.)
+#[tactic(auto, unfolding(crate::specs::Words::words))]
 pub fn word_of(cell: u8) -> u64
-    ensures { λ r. ⌜ r ≡ wordOf cell ⌝ }
+    ensures { result ≡ word_of cell }
 {
     match cell {
 TEXT
@@ -122,8 +123,9 @@ field() {
     cat <<TEXT
 
 // $3
+#[tactic(auto, unfolding(crate::specs::Words::words))]
 pub fn $1(cell: u8) -> u32
-    ensures { λ r. ⌜ r ≡ $4 (wordOf cell) ⌝ }
+    ensures { result ≡ $4 (word_of cell) }
 {
     match cell {
 TEXT
@@ -136,11 +138,11 @@ TEXT
 TEXT
 }
 
-field capital_of 5 'The capital of a letter, or NO_POINT.' capitalIn 5
-field capital_owed 5 'The same, where one capital follows another, each with its 46. (A look-up of its own, for the loop over them.)' capitalIn 5
-field letter_of 4 'The small letter, or NO_POINT.' letterIn 5
-field point_of 4 'What a cell is alone, a small letter or a sign; or NO_POINT. (For a row of one cell.)' pointIn 4
-field inside_number 9 'What a cell is inside a number: its digit, the full stop or the comma; or NO_POINT. (Of the digits alone the compiler would make jumps, and no table: they are too far apart.)' insideIn 9
+field capital_of 5 'The capital of a letter, or NO_POINT.' capital_in 5
+field capital_owed 5 'The same, where one capital follows another, each with its 46. (A look-up of its own, for the loop over them.)' capital_in 5
+field letter_of 4 'The small letter, or NO_POINT.' letter_in 5
+field point_of 4 'What a cell is alone, a small letter or a sign; or NO_POINT. (For a row of one cell.)' point_in 4
+field inside_number 9 'What a cell is inside a number: its digit, the full stop or the comma; or NO_POINT. (Of the digits alone the compiler would make jumps, and no table: they are too far apart.)' inside_in 9
 
 cat <<'TEXT'
 
@@ -158,8 +160,9 @@ $1 != "two" && $5 $6 $7 $9 != "nonenonenonenone" {
     print ""
 }'
 cat <<'TEXT'
+#[tactic(auto, unfolding(crate::specs::Words::words))]
 pub fn run_word(cell: u8) -> u64
-    ensures { λ r. ⌜ r ≡ runIn (wordOf cell) ⌝ }
+    ensures { result ≡ run_in (word_of cell) }
 {
     match cell {
 TEXT
@@ -185,8 +188,9 @@ END { for (c = 0; c < 64; c++) if (c in word) { print "const S" dots[c] ": u64 =
 
 cat <<'TEXT'
 // What a cell is as the second of a sign of two. (Every byte is named, as above.)
+#[tactic(auto, unfolding(crate::specs::Words::seconds))]
 pub fn second_word(cell: u8) -> u64
-    ensures { λ r. ⌜ r ≡ secondOf cell ⌝ }
+    ensures { result ≡ second_of cell }
 {
     match cell {
 TEXT

@@ -1,8 +1,8 @@
 #!/bin/sh
-# prints: crates/entries/proofs/list/word_of/Proof.antt
+# prints: crates/entries/proofs/list/word_of/Answers.antt
 #
-# The proof of the look-up of the sign list: its keys, those below 256 and the others, and one need for each. The code points are
-# read from the definitions (tools/sign-list.awk).
+# The answers that the look-up of the sign list leaves open: at each key below 256 antt computes both sides by itself, and asked are the arms of those below 256 that
+# have no sign, the keys behind, and what any other code point has. The code points are read from the definitions (tools/sign-list.awk).
 #
 # Nothing printed is trusted: the prover checks the proof.
 set -eu
@@ -13,15 +13,12 @@ LC_ALL=C
 export LC_ALL
 
 looked_up=$(awk -v arms=1 -f tools/sign-list.awk)
-unfold='oneFor entryOf word thenOf usualsOf usualStates bits markNumber signOf sortIn castilian class isDigitCell ownCells lowerCells markOf dots'
+unfold='one_for entry_of word then_of usuals_of usual_states bits mark_number sign_of sort_in castilian class is_digit_cell own_cells lower_cells mark_of dots'
 
 # The keys of one part of the look-up: `low`, those below 256, or `far`, the others.
 keys() { # PART
     printf '%s\n' "$looked_up" | awk -F '\t' -v part="$1" '$3 == part { print $2 }'
 }
-
-low_count=$(keys low | awk 'END { print NR }')
-far_count=$(keys far | awk 'END { print NR }')
 
 # A list of numbers, filled to lines of at most 120 columns.
 list() { # NAME
@@ -36,34 +33,27 @@ list() { # NAME
     END { print "\n" }'
 }
 
-# The needs of the keys of one `match`.
-needs() { # COUNT MATCH
-    awk -v count="$1" -v match_name="$2" 'BEGIN {
-        for (k = 1; k <= count; k++) print "    (λ c. sym (ap (λ (k : ℕ). entryOf castilian (oneFor k)) (c ." match_name " .keys" k ")))"
-    }'
-}
-
 cat <<'TEXT'
 -- Printed by tools/print-entries-proof.sh: change that.
 -- `list::word_of`: at each key antt computes both sides; any other code point is none of the sign list's, and none that is looked up as another
--- (`none-of`). Assumes nothing.
-use mathlib.Core.Path.{_≡_, sym, ap}
-use mathlib.Core.Bool.{Bool, false, _||_, not}
-use mathlib.Core.List.{List, [], _∷_}
+-- (`none_of`). Assumes nothing.
+use mathlib.Core.Path.{sym, ap}
+use mathlib.Core.Bool.{Bool, ◌||◌, not}
+use mathlib.Core.List.{List, [], ◌∷◌}
 use Prim.Native.Nat.{ℕ}
-use Rattle·rules.specs.Castilian.{castilian}
-use Rattle·rules.specs.Cells.{dots}
-use Rattle·rules.specs.Sorts.{noSign, class, isDigitCell}
-use Rattle·rules.specs.Signs.{ownCells, lowerCells}
-use Rattle·rules.specs.Pairs.{markOf}
-use Rattle·rules.specs.Rows.{sortIn}
-use Rattle·rules.proofs.Finite.{false-of}
-use Rattle·rules.proofs.Plain.{oneFor}
-use Rattle·entries·specs.specs.SignWords.{signOf}
-use Rattle·entries·specs.specs.Entries.{entryOf, word, thenOf, usualStates, bits, markNumber, usualsOf}
-use Rattle·entries·proofs.proofs.Keys.{among, none-of, rest-none, told-of}
-use Rattle·entries·proofs.proofs.list.word_of.Statement.{statement}
-use Rattle·entries·proofs.proofs.list.word_of.Tie as tie
+use Rattle.std.proofs.Common.{rules}
+use Rattle.rules.specs.Castilian.{castilian}
+use Rattle.rules.specs.Cells.{dots}
+use Rattle.rules.specs.Sorts.{class, is_digit_cell}
+use Rattle.rules.specs.Signs.{own_cells, lower_cells}
+use Rattle.rules.specs.Pairs.{mark_of}
+use Rattle.rules.specs.Rows.{sort_in}
+use Rattle.rules.proofs.Finite.{false_of}
+use Rattle.rules.proofs.Plain.{one_for}
+use Rattle.entries.specs.SignWords.{sign_of}
+use Rattle.entries.specs.Entries.{entry_of, word, then_of, usual_states, bits, mark_number, usuals_of}
+use Rattle.entries.proofs.Keys.{among, none_of, rest_none, told_of}
+use Rattle.entries.proofs.list.word_of.Goals as goal
 
 TEXT
 keys low | list low
@@ -72,41 +62,38 @@ cat <<TEXT
 abbrev listed : ℕ → Bool
 listed k = among low k || among far k
 
-unlisted : (c : ℕ) → listed c ≡ false → word noSign ≡ entryOf castilian (oneFor c)
-unfolding low far $unfold
-unlisted c e = none-of listed c tt tt e
-
 TEXT
 
-# Those without a sign that stand in an arm.
-arm=$low_count
+# Those without a sign that stand in an arm, which the first of them names.
 for parity in even odd; do
     sh tools/unlisted.sh $parity | list $parity
-    arm=$((arm + 1))
+    first=$(sh tools/unlisted.sh $parity | sed -n 1p)
+    arm=in-$((first))
     cat <<TEXT
-$parity-told : tie.Need-returns-$arm
+pub returns-$arm : goal.returns-$arm
 unfolding low far $parity $unfold
-$parity-told c =
-    let p : ℕ = c .before .args .point in
-    unlisted p (false-of (listed p) (told-of (λ k. not (listed k)) $parity p tt (c .match .keys$arm)))
+returns-$arm c =
+    let p : ℕ = c.args.point in
+    none_of listed p tt tt (false_of (listed p) (told_of (λ k. not (listed k)) $parity p tt c.$arm.is))
 
 TEXT
 done
 
 cat <<TEXT
-other : tie.Need-returns-$((arm + far_count + 1))
+pub returns-in_default-point : goal.returns-in_default-point
 unfolding low far $unfold
-other c =
-    let p : ℕ = c .before .before .args .point in
-    unlisted p (rw (rest-none Unit low p (c .before .match .rest .0 .0) .1, rest-none Unit far p (c .match2 .rest) .1))
-
-pub word-of-spec : {M : Type 1} → statement M
-unfolding $unfold
-word-of-spec =
-    tie.close
-    (tie.spec
+returns-in_default-point c =
+    let p : ℕ = c.args.point in
+    none_of listed p tt tt (rw ((rest_none Unit low p (search rules)).1, (rest_none Unit far p (search rules)).1))
 TEXT
-needs "$low_count" match
-printf '    even-told\n    odd-told\n'
-needs "$far_count" match2
-echo '    other)'
+
+# The keys from 256 on, by their numbers.
+for key in $(keys far); do
+    arm=in-$((key))
+    cat <<TEXT
+
+pub returns-$arm : goal.returns-$arm
+unfolding $unfold
+returns-$arm c = sym (ap (λ (k : ℕ). entry_of castilian (one_for k)) c.$arm.is)
+TEXT
+done

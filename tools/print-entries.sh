@@ -20,45 +20,17 @@ looked_up=$(awk -v arms=1 -f tools/sign-list.awk)
 cat <<'TEXT'
 // Printed by tools/print-entries.sh from crates/rules/specs/Castilian.antt and Normal.antt: change those, and print it again.
 // The sign list: the word of each code point, by its fields. The check compares each with the rules.
-use crate::A_TO_J;
-use crate::BAR;
-use crate::BARRED;
-use crate::CAPITAL;
-use crate::CAPITALS;
-use crate::CLASS;
-use crate::COMMA;
-use crate::COUNT;
-use crate::DASH;
-use crate::DASHED;
-use crate::FEMININE;
-use crate::FIRST;
-use crate::FREE;
-use crate::FULL_STOP;
-use crate::GUARDED;
-use crate::HYPHEN;
-use crate::HYPHENED;
-use crate::LOWER;
-use crate::LOWERED;
-use crate::MARK;
-use crate::MASCULINE;
-use crate::MIXED;
-use crate::NUMBER;
-use crate::ONE;
-use crate::ORDINAL;
-use crate::OTHER_DIGIT;
-use crate::OTHER_SIGN;
-use crate::OTHER_SMALL;
-use crate::PERCENT;
-use crate::SECOND;
-use crate::THEN;
-use crate::THIRD;
-use crate::UNDER;
-use crate::UNLISTED;
-use crate::USUAL;
-ghost use mathlib.Core.Path.{_≡_};
-ghost use Rattle·rules.specs.Castilian.{castilian};
-ghost use Rattle·rules.proofs.Plain.{oneFor};
-ghost use Rattle·entries·specs.specs.Entries.{entryOf};
+ghost use Rattle.std.specs.Prelude.{◌≡◌};
+ghost use Rattle.rules.specs.Castilian.{castilian};
+ghost use Rattle.rules.proofs.Plain.{one_for};
+ghost use Rattle.entries.specs.Entries.{entry_of};
+
+use crate::{
+    A_TO_J, BAR, BARRED, CAPITAL, CAPITALS, CLASS, COMMA, COUNT, DASH, DASHED, FEMININE, FIRST,
+    FREE, FULL_STOP, GUARDED, HYPHEN, HYPHENED, LOWER, LOWERED, MARK, MASCULINE, MIXED, NUMBER,
+    ONE, ORDINAL, OTHER_DIGIT, OTHER_SIGN, OTHER_SMALL, PERCENT, SECOND, THEN, THIRD, UNDER,
+    UNLISTED, USUAL,
+};
 
 // The cells, by their dots.
 TEXT
@@ -191,8 +163,9 @@ cat <<'TEXT'
 // The word of a code point. All below 256 are named, and the others are asked for behind them: once compiled, the table is read as soon as the code point is known to
 // be below 256, by the code point itself. (Those without a sign are in two arms, the even ones and the odd: numbers that follow one another in one arm would be
 // compiled to a test of their own. All in one `match` would be a jump and no table.)
+#[tactic(auto, unfolding(rules::proofs::Plain::one_for, crate::specs::Entries::entry_of, crate::specs::Entries::word, crate::specs::Entries::then_of, crate::specs::Entries::usuals_of, crate::specs::Entries::usual_states, crate::specs::Entries::bits, crate::specs::Entries::mark_number, crate::specs::SignWords::sign_of, rules::specs::Rows::sort_in, rules::specs::Castilian::castilian, rules::specs::Sorts::class, rules::specs::Sorts::is_digit_cell, rules::specs::Signs::own_cells, rules::specs::Signs::lower_cells, rules::specs::Pairs::mark_of, rules::specs::Cells::dots))]
 pub fn word_of(point: u32) -> u64
-    ensures { λ r. ⌜ r ≡ entryOf castilian (oneFor point) ⌝ }
+    ensures { result ≡ entry_of castilian (one_for point) }
 {
     match point {
 TEXT

@@ -14,7 +14,7 @@
 #
 # Nothing printed is trusted: the prover refuses a member that is left out or that stands at another place than its number.
 # To add an enumeration, add a line to the table below: its name, the file that declares it, and the name of the `Finite`
-# type to print. Where its file declares the numbers too (`classNumber` beside `Class`), those are used and none printed.
+# type to print. Where its file declares the numbers too (`class_number` beside `Class`), those are used and none printed.
 set -eu
 cd "$(dirname "$0")/.."
 
@@ -32,7 +32,7 @@ function fail(message) {
 # Reads the members of the enumeration k into member[k, 1], member[k, 2] ..
 function read_members(k,    line, word, words, i, inside, status) {
     while ((status = (getline line < file[k])) > 0) {
-        if (index(line, "abbrev pub " small[k] "Number :") == 1) { numbered[k] = 1; continue }
+        if (index(line, "abbrev pub " small[k] "_number :") == 1) { numbered[k] = 1; continue }
         if (line == "pub data " name[k] " : Type 0 where") { inside = 1; continue }
         if (!inside) continue
         sub(/(^|[ \t]+)--.*/, "", line)
@@ -48,11 +48,11 @@ function read_members(k,    line, word, words, i, inside, status) {
     if (!size[k]) fail(file[k] " declares no members of " name[k])
 }
 
-# crates/rules/specs/Sorts.antt is the module Rattle·rules·specs.specs.Sorts.
+# crates/rules/specs/Sorts.antt is the module Rattle.rules.specs.Sorts.
 function module(path,    part) {
     split(path, part, "/")
     sub(/\.antt$/, "", part[4])
-    return "Rattle·" part[2] "·" part[3] "." part[3] "." part[4]
+    return "Rattle." part[2] "." part[3] "." part[4]
 }
 
 # One `use` line for each file, with all that is declared there, in the order of the table.
@@ -64,7 +64,7 @@ function print_uses(    k, i, j, names) {
             if (file[j] != file[k]) continue
             names = names (names == "" ? "" : ", ") name[j]
             for (i = 1; i <= size[j]; i++) names = names ", " member[j, i]
-            if (numbered[j]) names = names ", " small[j] "Number"
+            if (numbered[j]) names = names ", " small[j] "_number"
         }
         print "use " module(file[k]) ".{" names "}"
     }
@@ -72,12 +72,12 @@ function print_uses(    k, i, j, names) {
 
 # The list of the members, on one line where that has at most 120 columns, and otherwise filled to lines of at most 120.
 function print_list(k,    i, word, column, wide) {
-    column = length(small[k] "-list = []")
+    column = length(small[k] "_list = []")
     for (i = 1; i <= size[k]; i++) column += length(member[k, i]) + 3
     wide = column > 120
 
-    print "abbrev pub " small[k] "-list : List " name[k]
-    printf "%s", small[k] "-list ="
+    print "abbrev pub " small[k] "_list : List " name[k]
+    printf "%s", small[k] "_list ="
     for (i = 1; i <= size[k] + 1; i++) {
         word = i <= size[k] ? member[k, i] : "[]"
         column += length(word) + 3
@@ -98,33 +98,33 @@ function print_enumeration(k,    i, tails, x, X, first) {
     print_list(k)
 
     print ""
-    print "pub " x "-every : (f : " X " → Bool) → All f " x "-list → (x : " X ") → T (f x)"
+    print "pub " x "_every : (f : " X " → Bool) → All f " x "_list → (x : " X ") → T (f x)"
     tails = ""
     for (i = 1; i <= size[k]; i++) {
-        print x "-every f a " member[k, i] " = a" tails " .0"
-        tails = tails " .1"
+        print x "_every f a " member[k, i] " = a" tails ".0"
+        tails = tails ".1"
     }
 
     print ""
     print "abbrev pub " plural[k] " : Finite " X
-    print plural[k] " = record { members = " x "-list; at = λ f t. " x "-every f (all f " x "-list t) }"
+    print plural[k] " = record { members = " x "_list; at = λ f t. " x "_every f (all f " x "_list t) }"
 
     if (!numbered[k]) {
         print ""
-        print "abbrev pub " x "Number : " X " → ℕ"
-        for (i = 1; i <= size[k]; i++) print x "Number " member[k, i] " = " (i - 1)
+        print "abbrev pub " x "_number : " X " → ℕ"
+        for (i = 1; i <= size[k]; i++) print x "_number " member[k, i] " = " (i - 1)
     }
 
     print ""
-    print "pub " x "-back-number : (x : " X ") → getD " x "-list (" x "Number x) " first " ≡ x"
-    for (i = 1; i <= size[k]; i++) print x "-back-number " member[k, i] " = refl"
+    print "pub " x "_back_number : (x : " X ") → get_or " x "_list (" x "_number x) " first " ≡ x"
+    for (i = 1; i <= size[k]; i++) print x "_back_number " member[k, i] " = refl"
 
     print ""
-    print "pub " x "-same : (x y : " X ") → T (eqb (" x "Number x) (" x "Number y)) → x ≡ y"
-    print x "-same x y t ="
-    print "    sym (" x "-back-number x)"
-    print "    ∙ ap (λ (n : ℕ). getD " x "-list n " first ") (eqb→eq (" x "Number x) (" x "Number y) t)"
-    print "    ∙ " x "-back-number y"
+    print "pub " x "_same : (x y : " X ") → T (eqb (" x "_number x) (" x "_number y)) → x ≡ y"
+    print x "_same x y t ="
+    print "    sym (" x "_back_number x)"
+    print "    ∙ ap (λ (n : ℕ). get_or " x "_list n " first ") (eqb→eq (" x "_number x) (" x "_number y) t)"
+    print "    ∙ " x "_back_number y"
 }
 
 # The table: NAME FILE PLURAL.
@@ -141,13 +141,13 @@ END {
     if (failed) exit 1
     print "-- Printed by tools/print-enumerations.sh from the declarations: change those, and print it again."
     print "-- The finite enumerations of the rules as `Finite` types, and that a member is known by its number. Assumes nothing."
-    print "use mathlib.Core.Path.{_≡_, refl, sym, _∙_, ap}"
+    print "use mathlib.Core.Path.{◌≡◌, refl, sym, ◌∙◌, ap}"
     print "use mathlib.Core.Bool.{Bool}"
-    print "use mathlib.Core.List.{List, [], _∷_}"
+    print "use mathlib.Core.List.{List, [], ◌∷◌}"
     print "use Prim.Native.Nat.{ℕ}"
     print "use lib.Dec.{T, eqb, eqb→eq}"
-    print "use lib.ListN.{getD}"
-    print "use Rattle·rules·proofs.proofs.Finite.{Finite, All, all}"
+    print "use lib.ListN.{get_or}"
+    print "use Rattle.rules.proofs.Finite.{Finite, All, all}"
     print_uses()
     for (k = 1; k <= count; k++) print_enumeration(k)
 }

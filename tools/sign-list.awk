@@ -14,8 +14,8 @@
 #
 # The two tools/print-entries*.sh print from these lines.
 #
-# What is read: the table `castilian`, and by name each list that it is made of; `digitDots` in Sorts.antt; `lowerDots` and
-# the clauses of `ownCells` in Signs.antt; `replacements` in Normal.antt. So a new sign is a line there and nothing here. What
+# What is read: the table `castilian`, and by name each list that it is made of; `digit_dots` in Sorts.antt; `lower_dots` and
+# the clauses of `own_cells` in Signs.antt; `replacements` in Normal.antt. So a new sign is a line there and nothing here. What
 # cannot be read is refused. Nothing printed is trusted: the prover compares the word of each code point with the rules.
 #
 # Run it from the top of the repository with LC_ALL=C: awk -f tools/sign-list.awk
@@ -72,7 +72,7 @@ function read_words(name, line,    size) {
     for (;;) {
         sub(/^[ \t]+/, "", line)
         if (line == "" || line ~ /^--/) return
-        if (match(line, /^"(\\.|[^"\\])*"/) || match(line, /^[A-Za-z0-9]+/)) size = RLENGTH
+        if (match(line, /^"(\\.|[^"\\])*"/) || match(line, /^[A-Za-z0-9_]+/)) size = RLENGTH
         else if (line ~ /^(\+\+|\[\])/) size = 2
         else if (line ~ /^[(),]/) size = 1
         else if (index(line, "∷") == 1) size = length("∷")
@@ -185,7 +185,7 @@ function read_row(    w, row) {
 
 function own_cells(sort,    row) {
     if (sort in own) return own[sort]
-    open(signs, "ownCells " sort)
+    open(signs, "own_cells " sort)
     row = read_row()
     shut()
     return own[sort] = row
@@ -210,12 +210,12 @@ function enlist(n,    i) {
 
 function add_sign(n, its_class, its_cells) { add(n, its_class, its_cells, "none", "none", 0) }
 
-# comma, fullStop false, percent (cells (456 ∷ 356 ∷ [])) ..
+# comma, full_stop false, percent (cells (456 ∷ 356 ∷ [])) ..
 function read_sort(n,    sort) {
     sort = take()
     if (sort == "percent") { add_sign(n, "PERCENT", read_row()); return }
     if (sort == "plain") { add_sign(n, "OTHER_SIGN", read_row()); return }
-    if (sort == "fullStop") { truth(take()); sort = "(fullStop b)" }
+    if (sort == "full_stop") { truth(take()); sort = "(full_stop b)" }
     else if (sort == "ordinal") sort = "(ordinal " truth(take()) ")"
     if (!(sort in class_of)) wrong("a sort that is not known here")
     add_sign(n, class_of[sort], own_cells(sort))
@@ -319,7 +319,7 @@ BEGIN {
     normal = "crates/rules/specs/Normal.antt"
 
     # the class of each sort that has its own cells
-    class_of["(fullStop b)"] = "FULL_STOP"
+    class_of["(full_stop b)"] = "FULL_STOP"
     class_of["comma"] = "COMMA"
     class_of["hyphen"] = "HYPHEN"
     class_of["dash"] = "DASH"
@@ -332,8 +332,8 @@ BEGIN {
     called[hexadecimal("e000")] = "emphasis opens"
     called[hexadecimal("e001")] = "emphasis closes"
 
-    read_ten(sorts, "digitDots", digit_dots)
-    read_ten(signs, "lowerDots", lower_dots)
+    read_ten(sorts, "digit_dots", digit_dots)
+    read_ten(signs, "lower_dots", lower_dots)
     read_table("castilian")
     if (arms) read_replacements()
 

@@ -28,15 +28,15 @@ deeds =
     ∷ letter ∷ letter ∷ begins_run ∷ begins_number ∷ begins_number ∷ sign ∷ sign ∷ shares_cells ∷ shares_cells ∷ outside_form ∷ outside_form ∷ outside_form ∷ sign ∷ sign ∷ no_sign ∷ no_sign
     -- dashed
     ∷ letter ∷ letter ∷ begins_run ∷ begins_number ∷ begins_number ∷ sign ∷ sign ∷ shares_cells ∷ the_dash ∷ outside_form ∷ outside_form ∷ outside_form ∷ sign ∷ sign ∷ no_sign ∷ no_sign
-    -- noState11
+    -- no_state_11
     ∷ no_sign ∷ no_sign ∷ no_sign ∷ no_sign ∷ no_sign ∷ no_sign ∷ no_sign ∷ no_sign ∷ no_sign ∷ no_sign ∷ no_sign ∷ no_sign ∷ no_sign ∷ no_sign ∷ no_sign ∷ no_sign
-    -- noState12
+    -- no_state_12
     ∷ no_sign ∷ no_sign ∷ no_sign ∷ no_sign ∷ no_sign ∷ no_sign ∷ no_sign ∷ no_sign ∷ no_sign ∷ no_sign ∷ no_sign ∷ no_sign ∷ no_sign ∷ no_sign ∷ no_sign ∷ no_sign
-    -- noState13
+    -- no_state_13
     ∷ no_sign ∷ no_sign ∷ no_sign ∷ no_sign ∷ no_sign ∷ no_sign ∷ no_sign ∷ no_sign ∷ no_sign ∷ no_sign ∷ no_sign ∷ no_sign ∷ no_sign ∷ no_sign ∷ no_sign ∷ no_sign
-    -- noState14
+    -- no_state_14
     ∷ no_sign ∷ no_sign ∷ no_sign ∷ no_sign ∷ no_sign ∷ no_sign ∷ no_sign ∷ no_sign ∷ no_sign ∷ no_sign ∷ no_sign ∷ no_sign ∷ no_sign ∷ no_sign ∷ no_sign ∷ no_sign
-    -- noState15
+    -- no_state_15
     ∷ no_sign ∷ no_sign ∷ no_sign ∷ no_sign ∷ no_sign ∷ no_sign ∷ no_sign ∷ no_sign ∷ no_sign ∷ no_sign ∷ no_sign ∷ no_sign ∷ no_sign ∷ no_sign ∷ no_sign ∷ no_sign
     ∷ []
 

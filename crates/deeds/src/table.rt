@@ -12,6 +12,7 @@ use crate::{
 };
 
 // There is no other place in the table than these.
+#[tactic(auto, unfolding(crate::specs::Deeds::deeds))]
 pub fn deed_at(place: usize) -> usize
     requires { place < deed_count }
     ensures { result ≡ get_or deeds place no_sign }

@@ -432,6 +432,7 @@ const UE001: u64 = AS_PAIR_MARK + COUNT * 1 + FIRST * D35 + CLOSER + MARK * 2 * 
 // The word of a code point. All below 256 are named, and the others are asked for behind them: once compiled, the table is read as soon as the code point is known to
 // be below 256, by the code point itself. (Those without a sign are in two arms, the even ones and the odd: numbers that follow one another in one arm would be
 // compiled to a test of their own. All in one `match` would be a jump and no table.)
+#[tactic(auto, unfolding(rules::proofs::Plain::one_for, crate::specs::Entries::entry_of, crate::specs::Entries::word, crate::specs::Entries::then_of, crate::specs::Entries::usuals_of, crate::specs::Entries::usual_states, crate::specs::Entries::bits, crate::specs::Entries::mark_number, crate::specs::SignWords::sign_of, rules::specs::Rows::sort_in, rules::specs::Castilian::castilian, rules::specs::Sorts::class, rules::specs::Sorts::is_digit_cell, rules::specs::Signs::own_cells, rules::specs::Signs::lower_cells, rules::specs::Pairs::mark_of, rules::specs::Cells::dots))]
 pub fn word_of(point: u32) -> u64
     ensures { result ≡ entry_of castilian (one_for point) }
 {

@@ -395,6 +395,7 @@ const W23456: u64 = AS_OTHER_LETTER + POINT_AT * 0xfa + CAPITAL_AT * 0xda; // Ú
 
 // The word of a cell; that of a byte that is none begins no sign. (For the first cell of a sign. It has one caller, so that the compiler draws it into the
 // loop, and every byte is named, so that it reads a table there and asks nothing first; the look-ups below are for the cells that follow.)
+#[tactic(auto, unfolding(crate::specs::Words::words))]
 pub fn word_of(cell: u8) -> u64
     ensures { result ≡ word_of cell }
 {
@@ -703,6 +704,7 @@ pub const SIGNS_ALONE: u64 = (1 << D0)
     + (1 << D2356);
 
 // The capital of a letter, or NO_POINT.
+#[tactic(auto, unfolding(crate::specs::Words::words))]
 pub fn capital_of(cell: u8) -> u32
     ensures { result ≡ capital_in (word_of cell) }
 {
@@ -745,6 +747,7 @@ pub fn capital_of(cell: u8) -> u32
 }
 
 // The same, where one capital follows another, each with its 46. (A look-up of its own, for the loop over them.)
+#[tactic(auto, unfolding(crate::specs::Words::words))]
 pub fn capital_owed(cell: u8) -> u32
     ensures { result ≡ capital_in (word_of cell) }
 {
@@ -787,6 +790,7 @@ pub fn capital_owed(cell: u8) -> u32
 }
 
 // The small letter, or NO_POINT.
+#[tactic(auto, unfolding(crate::specs::Words::words))]
 pub fn letter_of(cell: u8) -> u32
     ensures { result ≡ letter_in (word_of cell) }
 {
@@ -829,6 +833,7 @@ pub fn letter_of(cell: u8) -> u32
 }
 
 // What a cell is alone, a small letter or a sign; or NO_POINT. (For a row of one cell.)
+#[tactic(auto, unfolding(crate::specs::Words::words))]
 pub fn point_of(cell: u8) -> u32
     ensures { result ≡ point_in (word_of cell) }
 {
@@ -880,6 +885,7 @@ pub fn point_of(cell: u8) -> u32
 }
 
 // What a cell is inside a number: its digit, the full stop or the comma; or NO_POINT. (Of the digits alone the compiler would make jumps, and no table: they are too far apart.)
+#[tactic(auto, unfolding(crate::specs::Words::words))]
 pub fn inside_number(cell: u8) -> u32
     ensures { result ≡ inside_in (word_of cell) }
 {
@@ -990,6 +996,7 @@ const R13456: u64 = RUN_CAPITAL * 0x59; // Y y
 
 const R23456: u64 = RUN_CAPITAL * 0xda; // Ú ú
 
+#[tactic(auto, unfolding(crate::specs::Words::words))]
 pub fn run_word(cell: u8) -> u64
     ensures { result ≡ run_in (word_of cell) }
 {
@@ -1101,6 +1108,7 @@ const S356: u64 = BEHIND_456 * 0x25; // %
 const S13456: u64 = BEHIND_456 * 0xa5; // ¥
 
 // What a cell is as the second of a sign of two. (Every byte is named, as above.)
+#[tactic(auto, unfolding(crate::specs::Words::seconds))]
 pub fn second_word(cell: u8) -> u64
     ensures { result ≡ second_of cell }
 {
