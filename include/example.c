@@ -3,7 +3,7 @@
  *
  * In the top folder of the repository:
  *
- *     rt staticlib desk
+ *     ./desk library
  *     cc -I include include/example.c target/staticlib/libdesk.a -o example
  *     ./example
  */

@@ -1,9 +1,11 @@
 #!/bin/sh
-# Proves the library and writes it as an archive for this machine, target/staticlib/libdesk.a: sh tools/build-library.sh
+# Proves the library and writes it as an archive for this machine, target/staticlib/libdesk.a: sh tools/build-library.sh [proved]
 #
-# rt proves the library, lowers it to a module and has the toolchain's compiler compile that, for x86-64. The module is kept as it comes to that compiler, and the same compiler compiles it once more:
-# on an Arm machine (aarch64) for that machine, which the toolchain does not, and on x86-64 with every jump within 32 bytes of code (docs/DECISIONS.md, 66). So the archive is of the proved code on either,
-# and what no proof covers is the compiler in any case (docs/ASSUMPTIONS.md).
+# `rt lib` proves the crate desk and all below it, from what earlier checks kept. The exports are the crate desk_c, a static library: it is proved over these and compiled by `rattle build`,
+# as `rt lib` there would have it, but on x86-64 with every jump within 32 bytes of code (docs/DECISIONS.md, 66): to the kit's compiler one word more is said. What no proof covers is the
+# compiler in any case (docs/ASSUMPTIONS.md).
+#
+# `proved` says that an rt ci that passed has just left the libraries below desk_c in out/ (../desk knows): they are then not proved once more.
 set -u
 export LC_ALL=C
 unset CDPATH
@@ -11,67 +13,43 @@ cd "$(dirname "$0")/.." || exit 2
 
 complain() { printf 'build-library: %s\n' "$*" >&2; }
 
-case $(uname -m) in
-x86_64 | amd64 | aarch64 | arm64) ;;
-*)
+. tools/linked-kit.sh
+[ -n "$target" ] || {
     complain "the library can be compiled for x86-64 and for aarch64, and this is $(uname -m)"
     exit 2
-    ;;
-esac
+}
 
-. tools/linked-kit.sh
+top=$PWD
 archive=target/staticlib/libdesk.a
 room=$(mktemp -d) || exit 2
 trap 'rm -rf "$room"' EXIT
 trap 'exit 130' HUP INT TERM
+link_toolchain "$room/toolchain" "$jumps" || exit 2
 
-link_kit "$room/kit" clang
-cat >"$room/kit/$toolchain/bin/clang" <<TEXT
-#!/bin/sh
-for word; do
-    case \$word in *.bc) cp "\$word" '$room/module.bc' ;; esac
-done
-exec '$clang' "\$@"
-TEXT
-chmod +x "$room/kit/$toolchain/bin/clang"
-# so that rt has it compiled in any case
+# The libraries that stand behind a crate's name in crates.txt.
+libraries_of() { # NAME
+    awk -v name="$1" '{ sub(/#.*/, ""); head = $0; sub(/:.*/, "", head); split(head, word, " ") }
+        word[1] == name { sub(/^[^:]*:?/, ""); print }' crates.txt
+}
+
+# What `rt lib` calls in crates/desk_c, but for the toolchain; and nothing is taken from earlier checks of desk_c.
+compile() {
+    set -- --crate-name desk_c src/lib.rt --extern "std=$kit/rlibs/std.rlib" -L "dependency=$kit/rlibs"
+    for library in $(libraries_of desk_c); do
+        set -- "$@" --extern "$library=$top/crates/$library/out/rlib/$library.rlib"
+    done
+    for folder in crates/*/out/rlib; do
+        set -- "$@" -L "dependency=$top/$folder"
+    done
+    (cd crates/desk_c && "$kit/bin/rattle" build "$@" --antt-project "$kit/rattle/logic/antt-project.json" --logic-built "$kit/logic_built" --links desk_c= \
+        --crate-type staticlib --target "$target" --toolchain "$room/toolchain" -o "$room/libdesk.a")
+}
+
+# nothing is left if the rest fails
 rm -f "$archive"
-RATTLE_HOME=$room/kit rt staticlib desk || exit
-# what rt wrote is compiled otherwise: nothing is left if the rest fails
-rm -f "$archive"
-[ -s "$room/module.bc" ] || { complain "rt called no compiler for the library, or not as it used to"; exit 2; }
-
-compile_x86_64() {
-    module_here "$room/module.bc" >"$room/module.ll" &&
-        compile_here -x ir "$room/module.ll" -o "$room/desk.o"
-}
-
-# C's rules for calls are the same on both but for one: a struct of more than two words is put where the caller says, which is a first argument on x86-64 and is none on Arm. `desk_step` answers so.
-compile_arm() {
-    cat >"$room/front.c" <<'TEXT'
-typedef __SIZE_TYPE__ size;
-struct sign { size number, second; __UINT32_TYPE__ first, then; size next; };
-void *desk_step_to(struct sign *, const __UINT8_TYPE__ *row, size row_length, size place);
-
-struct sign desk_step(const __UINT8_TYPE__ *row, size row_length, size place) {
-    struct sign sign;
-    desk_step_to(&sign, row, row_length, place);
-    return sign;
-}
-TEXT
-    module_here "$room/module.bc" >"$room/here.ll" &&
-        sed 's/@desk_step(/@desk_step_to(/' "$room/here.ll" >"$room/module.ll" &&
-        grep -q '^define .*ptr @desk_step_to(ptr ' "$room/module.ll" &&
-        compile_here -x ir "$room/module.ll" -o "$room/desk.o" &&
-        compile_here "$room/front.c" -o "$room/front.o"
-}
-
-case $machine in
-x86_64 | amd64) compile_x86_64 ;;
-*) compile_arm ;;
-esac && "$kit/$toolchain/bin/llvm-ar" rcs "$archive" "$room"/*.o || {
-    complain "the library could not be compiled for $machine"
-    rm -f "$archive"
-    exit 2
-}
-echo "build-library: $archive is for $machine"
+if [ "${1:-}" != proved ] || ! compile; then
+    (cd crates/desk && rt lib) || exit
+    compile || exit
+fi
+mkdir -p target/staticlib && cp "$room/libdesk.a" "$archive" || exit 2
+echo "build-library: $archive is for $(uname -m)"

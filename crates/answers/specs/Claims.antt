@@ -1,4 +1,4 @@
--- What is proved of the promises, as types; each is proved under the same name with hyphens in proofs/Claims.antt. In order: one outcome; what stands in `out`. Not here: what is proved of the printed
+-- What is proved of the promises, as types; each is proved under the same name in snake case in proofs/Claims.antt. In order: one outcome; what stands in `out`. Not here: what is proved of the printed
 -- lines themselves (crate `printouts`). Assumes nothing.
 use Rattle.std.specs.Prelude.{List, ◌≡◌, ℕ, ◌≤◌, length, take}
 use Rattle.printouts.specs.Lines.{TranscribePrints, ReadPrints}

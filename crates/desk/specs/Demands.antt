@@ -1,5 +1,5 @@
 -- THE PAGE OF DEMANDS, of the library: the letter's three demands over the promises of the public functions, and the screen's walk, each a type that is proved of the
--- Castilian table under the same name with hyphens in proofs/Demands.antt. `Transcribed`, `Read` and `Shows` are the promises of `transcribe`, `read` and `step`; that
+-- Castilian table under the same name in snake case in proofs/Demands.antt. `Transcribed`, `Read` and `Shows` are the promises of `transcribe`, `read` and `step`; that
 -- the functions keep them, for every input, is what the check proves of the functions. What is demanded of the rules stands in crates/rules/specs/Demands.antt.
 -- Assumes nothing.
 use Rattle.std.specs.Prelude.{List, ◌≡◌, ℕ, ◌≤◌, length, take}

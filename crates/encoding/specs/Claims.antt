@@ -1,4 +1,4 @@
--- What is proved of the promise, as a type; it is proved under the same name with hyphens in proofs/Claims.antt. Assumes nothing.
+-- What is proved of the promise, as a type; it is proved under the same name in snake case in proofs/Claims.antt. Assumes nothing.
 use Rattle.std.specs.Prelude.{List, ◌≡◌, ℕ}
 use Rattle.encoding.specs.Encoding.{Encoded}
 

@@ -1,4 +1,4 @@
--- What is proved of the limits, as types; each is proved under the same name with hyphens in proofs/Claims.antt. Assumes nothing.
+-- What is proved of the limits, as types; each is proved under the same name in snake case (`LongestLine` by `longest_line_lem`) in proofs/Claims.antt. Assumes nothing.
 use Rattle.std.specs.Prelude.{◌*◌, ◌≤◌}
 use Rattle.limits.specs.declared.Program.{Program}
 use Rattle.limits.specs.declared.Program.TheVariants.{Read}

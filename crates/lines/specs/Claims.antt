@@ -1,4 +1,4 @@
--- What is proved of the definitions and of the promise of `take_in`, as types; each is proved under the same name with hyphens in proofs/Claims.antt.
+-- What is proved of the definitions and of the promise of `take_in`, as types; each is proved under the same name in snake case in proofs/Claims.antt.
 -- In order: the lines of an input; one outcome; what a room shows; chunks; a call of `take_in` in a chunk. Assumes nothing.
 use Rattle.std.specs.Prelude.{true, false, List, [], ◌∷◌, ◌++◌, ◌↔◌, ◌≡◌, ℕ, ltb, length, take, drop}
 use Rattle.lines.specs.Lines.{lines_of, AreLines}

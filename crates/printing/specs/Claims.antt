@@ -1,4 +1,4 @@
--- What is proved of printing, as types; each is proved under the same name with hyphens in proofs/Claims.antt. In order: one outcome; what is printed from the front of
+-- What is proved of printing, as types; each is proved under the same name in snake case in proofs/Claims.antt. In order: one outcome; what is printed from the front of
 -- what was lent; part behind part. Assumes nothing.
 use Rattle.std.specs.Prelude.{List, ◌++◌, ◌≡◌, ℕ, ◌≤◌, length, take}
 use Rattle.rows.specs.Laid.{laid}

@@ -1,4 +1,4 @@
--- What is proved of the printed lines, as types; each is proved under the same name with hyphens in proofs/Claims.antt. In order: every line has a printed line, and one; how long a printed line is; the
+-- What is proved of the printed lines, as types; each is proved under the same name in snake case in proofs/Claims.antt. In order: every line has a printed line, and one; how long a printed line is; the
 -- way back. Assumes nothing.
 use Rattle.std.specs.Prelude.{List, ◌≡◌, ℕ, ◌+◌, ◌*◌, ◌≤◌, length}
 use Rattle.rules.specs.Cells.{Row}

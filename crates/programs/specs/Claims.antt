@@ -1,5 +1,5 @@
--- What is proved of the line programs, as types; each is proved under the same name with hyphens in proofs/Claims.antt. In order: every input has one output; what an answer is at most; the
--- paper's example; the way back. Assumes nothing.
+-- What is proved of the line programs, as types; each is proved under the same name in snake case (`MostBytes` by `most_bytes_lem`) in proofs/Claims.antt. In order: every input has one output;
+-- what an answer is at most; the paper's example; the way back. Assumes nothing.
 use Rattle.std.specs.Prelude.{List, [], ◌∷◌, ◌++◌, ◌≡◌, ℕ, ◌≤◌, length}
 use Rattle.rules.specs.Cells.{Row, print}
 use Rattle.rules.specs.Normal.{normal_of}

@@ -1,4 +1,4 @@
--- What is proved of what `steps` prints, as types; each is proved under the same name with hyphens in proofs/Claims.antt. In order: every line has a printed line, and
+-- What is proved of what `steps` prints, as types; each is proved under the same name in snake case in proofs/Claims.antt. In order: every line has a printed line, and
 -- one; the printed signs join to the text that reading gives; how much room a printed line asks, and what follows where it is lent; worked lines. Not here: that `steps_line`
 -- prints it, which is the function's own promise (`Steps`). Assumes nothing.
 use Rattle.std.specs.Prelude.{List, [], ◌∷◌, ◌++◌, ◌≡◌, ℕ, ◌+◌, ◌*◌, ◌≤◌, length, take}

@@ -1,4 +1,4 @@
--- What follows from the promise of `read`, as types; each is proved of any table that is sane, and of the Castilian one, under the same name with hyphens in
+-- What follows from the promise of `read`, as types; each is proved of any table that is sane, and of the Castilian one, under the same name in snake case in
 -- proofs/Claims.antt. `Read tb r lent a new` is the promise: row r, a lent text that held `lent`, answer a, and then `new`. Assumes nothing.
 use Rattle.std.specs.Prelude.{List, ◌↔◌, ◌≡◌, ℕ, ◌+◌, ◌≤◌, ◌<◌, length, take, get_or}
 use Rattle.std.proofs.Math.Option.{some}

@@ -1,4 +1,4 @@
--- What is proved of the printed lines, as types; each is proved under the same name with hyphens in proofs/Claims.antt: worked forms. Assumes nothing.
+-- What is proved of the printed lines, as types; each is proved under the same name in snake case in proofs/Claims.antt: worked forms. Assumes nothing.
 use Rattle.std.specs.Prelude.{[], ◌∷◌, ◌++◌, ◌≡◌}
 use Rattle.rules.specs.Cells.{print}
 use Rattle.printing.specs.Printed.{decimal_of, bytes_of_text, characters_of}

@@ -1,4 +1,4 @@
--- What is demanded of the rules: the letter's three demands, and paper 01's own, each a type that is proved under the same name with hyphens
+-- What is demanded of the rules: the letter's three demands, and paper 01's own, each a type that is proved under the same name in snake case
 -- (`OneText` by `one_text`) in proofs/Demands.antt. They are stated over a profile's table and hold of `castilian`. Start here. Assumes nothing.
 use Rattle.std.specs.Prelude.{false, List, [], ◌∷◌, ◌++◌, reverse, ◌↔◌, ◌⊎◌, ◌≡◌, ℕ, ◌*◌, ◌≤◌, ◌<◌, length}
 use Rattle.rules.specs.Cells.{Text, Row}

@@ -1,4 +1,4 @@
--- What follows from the promises of this crate's functions, as types; each is proved under the same name with hyphens in proofs/Claims.antt. In order:
+-- What follows from the promises of this crate's functions, as types; each is proved under the same name in snake case in proofs/Claims.antt. In order:
 -- what `new` and `moved` promise; that each promise allows one result; the place after a step; a reader stepped and moved over an accepted row. `Shows castilian r n s` is the
 -- promise of `next`, `first` and `shown_at`, of a row and a place; that of `place_after` is an equation. Assumes nothing.
 use Rattle.std.specs.Prelude.{List, [], ◌∷◌, ◌≡◌, ℕ, length}

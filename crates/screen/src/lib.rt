@@ -1,6 +1,6 @@
 // The proofing screen's reader: it holds the row that it borrows and a place, and it copies nothing. What a sign is, and which rows are
 // refused, is `stepper::step`'s to say; here a place is only held, stepped from and moved.
-// The proofs of the functions over the struct are walks of their code by hand: whatever is to be decided goes into a function over plain parameters.
+// Nothing is decided in the functions over the struct: whatever is to be decided goes into a function over plain parameters.
 #![tactic(auto)]
 
 ghost use Rattle.std.specs.Prelude.{◌≡◌};
@@ -58,7 +58,7 @@ pub fn place_after(shown: Shown, place: usize) -> usize
     }
 }
 
-// The first step of a row. Plain parameters: whoever calls this needs no walk by hand.
+// The first step of a row.
 pub fn first(row: &[u8]) -> Shown
     ensures { Shows castilian row.now 0 result }
 {

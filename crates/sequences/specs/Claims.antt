@@ -1,4 +1,4 @@
--- What is proved of the definitions, as types; each is proved under the same name with hyphens in proofs/Claims.antt or proofs/Inverse.antt. In order: why sequences may be taken from the left; that tables
+-- What is proved of the definitions, as types; each is proved under the same name in snake case in proofs/Claims.antt or proofs/Inverse.antt. In order: why sequences may be taken from the left; that tables
 -- 3-6 and 3-7 are each other's inverse; one outcome. Assumes nothing.
 use Rattle.std.specs.Prelude.{true, List, ◌≡◌, ℕ, ◌+◌, ◌≤◌, ◌<◌, length, take, drop}
 use Rattle.encoding.specs.Encoding.{is_scalar, encoded_of}

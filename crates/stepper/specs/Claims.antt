@@ -1,4 +1,4 @@
--- What follows from the promise of `step`, as types; each is proved of any table that is sane, and of the Castilian one, under the same name with hyphens in
+-- What follows from the promise of `step`, as types; each is proved of any table that is sane, and of the Castilian one, under the same name in snake case in
 -- proofs/Claims.antt. `Shows tb r place s` is the promise: row r, a place, and what is shown. `Read` is that of `reader::read`. Assumes nothing.
 use Rattle.std.specs.Prelude.{List, [], ◌∷◌, ◌++◌, ◌↔◌, ◌≡◌, ℕ, ◌<◌, length}
 use Rattle.std.proofs.Math.Option.{none}

@@ -1,5 +1,5 @@
--- What follows from the promise of `transcribe`, as types; each is proved of any table that is sane, and of the Castilian one, under the same name with
--- hyphens in proofs/Claims.antt. `Transcribed tb p lent a new` is the promise: print p, a lent row that held `lent`, answer a, and then `new`.
+-- What follows from the promise of `transcribe`, as types; each is proved of any table that is sane, and of the Castilian one, under the same name in
+-- snake case in proofs/Claims.antt. `Transcribed tb p lent a new` is the promise: print p, a lent row that held `lent`, answer a, and then `new`.
 -- Assumes nothing.
 use Rattle.std.specs.Prelude.{List, ◌⊎◌, ◌↔◌, ◌≡◌, ℕ, ◌+◌, ◌≤◌, ◌<◌, length, take, get_or}
 use Rattle.std.proofs.Math.Option.{some}

@@ -1,4 +1,4 @@
--- What is proved of the definitions, as types; each is proved under the same name with hyphens in proofs/Claims.antt. In order: the code points of some bytes; decoding undoes encoding; one outcome. Not
+-- What is proved of the definitions, as types; each is proved under the same name in snake case in proofs/Claims.antt. In order: the code points of some bytes; decoding undoes encoding; one outcome. Not
 -- here: what is proved of the well-formed sequences themselves (crate `sequences`). Assumes nothing.
 use Rattle.std.specs.Prelude.{true, List, [], ◌∷◌, ◌++◌, ◌≡◌, ℕ, ◌≤◌, length, take}
 use Rattle.encoding.specs.Encoding.{is_scalar, replacement, encoded_of}
