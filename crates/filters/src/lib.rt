@@ -13,7 +13,7 @@ use std::io::{self, ErrorKind, Read, Stdin, Stdout, Write};
 const CHUNK: usize = 65536;
 
 // What is known of the line that has not ended: how many of its bytes are held; and whether the output is open still.
-#[derive(Drop)]
+#[derive(Clone, Copy)]
 pub struct State {
     pub held: usize,
     pub is_open: bool,
