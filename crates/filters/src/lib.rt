@@ -2,6 +2,8 @@
 // memory does not grow with the input. What a line is stands in `lines`, what is printed for it in `programs`.
 #![tactic(auto)]
 
+ghost use Rattle.std.specs.Prelude.{IfErr};
+ghost use Rattle.filters.specs.Failures.{IsTold};
 ghost use Rattle.filters.specs.Rooms.{Rooms};
 
 use limits::{LONGEST_ROW_LINE, MOST_BYTES, Program, ROOM_FOR_TEXT};
@@ -19,7 +21,7 @@ pub struct State {
     pub is_open: bool,
 }
 
-// What ends a program before its input ends, but for an output that nobody reads any more.
+// What ends a program before its input has ended, and is told: a read that failed, or a write. An output that nobody reads any more is none (`IsTold`).
 #[derive(Drop)]
 pub enum Failure {
     Input(io::Error),
@@ -45,7 +47,9 @@ impl fmt::Debug for Failure {
 impl Error for Failure {}
 
 // Writes an answer, and answers whether the output is open still. An output that nobody reads any more ends the program without a word; any other failure is told.
-fn write(mut output: Stdout, bytes: &[u8]) -> Result<bool, Failure> {
+fn write(mut output: Stdout, bytes: &[u8]) -> Result<bool, Failure>
+    ensures { IfErr result IsTold }
+{
     match output.write_all(bytes) {
         Ok(()) => Ok(true),
         Err(e) if e.kind() == ErrorKind::BrokenPipe => Ok(false),
@@ -65,6 +69,7 @@ fn answer(
     out: &mut [u8],
 ) -> Result<bool, Failure>
     requires { Rooms program line.now points.old row.old text.old out.old }
+    ensures { IfErr result IsTold }
 {
     let n = programs::answer_line(program, line, held, points, row, text, out);
     write(output, &out[..n])
@@ -83,6 +88,7 @@ fn answer_all(
     out: &mut [u8],
 ) -> Result<State, Failure>
     requires { Rooms program line.old points.old row.old text.old out.old }
+    ensures { IfErr result IsTold }
 {
     let mut at = 0;
     let mut count = held;
@@ -119,6 +125,7 @@ fn filter(
     out: &mut [u8],
 ) -> Result<(), Failure>
     requires { Rooms program line.old points.old row.old text.old out.old }
+    ensures { IfErr result IsTold }
 {
     let mut held = 0;
     for _ in 0..u64::MAX {
@@ -149,7 +156,10 @@ fn filter(
     Ok(())
 }
 
-pub fn run(input: Stdin, output: Stdout, program: Program) -> Result<(), Failure> {
+// A failure leaves nothing behind: the rooms are the program's own.
+pub fn run(input: Stdin, output: Stdout, program: Program) -> Result<(), Failure>
+    ensures { IfErr result IsTold }
+{
     let mut chunk = [0u8; CHUNK];
     let mut line = [0u8; LONGEST_ROW_LINE];
     let mut points = [0u32; LONGEST_ROW_LINE];
