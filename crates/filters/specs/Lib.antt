@@ -1,1 +1,2 @@
+pub mod Failures
 pub mod Rooms

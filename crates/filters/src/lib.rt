@@ -2,32 +2,64 @@
 // memory does not grow with the input. What a line is stands in `lines`, what is printed for it in `programs`.
 #![tactic(auto)]
 
+ghost use Rattle.std.specs.Prelude.{IfErr};
+ghost use Rattle.filters.specs.Failures.{IsTold};
 ghost use Rattle.filters.specs.Rooms.{Rooms};
 
-use libc::{STDIN_FILENO, STDOUT_FILENO};
 use limits::{LONGEST_ROW_LINE, MOST_BYTES, Program, ROOM_FOR_TEXT};
+use std::error::Error;
+use std::fmt;
+use std::io::{self, ErrorKind, Read, Stdin, Stdout, Write};
 
 // So many bytes are asked for at once.
 const CHUNK: usize = 65536;
 
 // What is known of the line that has not ended: how many of its bytes are held; and whether the output is open still.
-#[derive(Drop)]
+#[derive(Clone, Copy)]
 pub struct State {
     pub held: usize,
     pub is_open: bool,
 }
 
-// Writes an answer. An output that nobody reads any more ends the program without a word; any other failure is told.
-fn write(bytes: &[u8]) -> bool {
-    let is_written = io::write_all(STDOUT_FILENO, bytes);
-    if !is_written && os::errno() != libc::EPIPE {
-        os::fail(b"standard output");
+// What ends a program before its input has ended, and is told: a read that failed, or a write. An output that nobody reads any more is none (`IsTold`).
+#[derive(Drop)]
+pub enum Failure {
+    Input(io::Error),
+    Output(io::Error),
+}
+
+impl fmt::Display for Failure {
+    fn fmt<W: fmt::Write>(&self, f: &mut fmt::Formatter<W>) -> fmt::Result {
+        match self {
+            Failure::Input(e) => write!(f, "standard input: {e}"),
+            Failure::Output(e) => write!(f, "standard output: {e}"),
+        }
     }
-    is_written
+}
+
+// `main` tells an error in this form.
+impl fmt::Debug for Failure {
+    fn fmt<W: fmt::Write>(&self, f: &mut fmt::Formatter<W>) -> fmt::Result {
+        write!(f, "{self}")
+    }
+}
+
+impl Error for Failure {}
+
+// Writes an answer, and answers whether the output is open still. An output that nobody reads any more ends the program without a word; any other failure is told.
+fn write(mut output: Stdout, bytes: &[u8]) -> Result<bool, Failure>
+    ensures { IfErr result IsTold }
+{
+    match output.write_all(bytes) {
+        Ok(()) => Ok(true),
+        Err(e) if e.kind() == ErrorKind::BrokenPipe => Ok(false),
+        Err(e) => Err(Failure::Output(e)),
+    }
 }
 
 // Answers a line that has ended.
 fn answer(
+    output: Stdout,
     program: Program,
     line: &[u8],
     held: usize,
@@ -35,15 +67,17 @@ fn answer(
     row: &mut [u8],
     text: &mut [u32],
     out: &mut [u8],
-) -> bool
+) -> Result<bool, Failure>
     requires { Rooms program line.now points.old row.old text.old out.old }
+    ensures { IfErr result IsTold }
 {
     let n = programs::answer_line(program, line, held, points, row, text, out);
-    write(&out[..n])
+    write(output, &out[..n])
 }
 
 // Answers the lines that end in a chunk.
 fn answer_all(
+    output: Stdout,
     program: Program,
     chunk: &[u8],
     line: &mut [u8],
@@ -52,8 +86,9 @@ fn answer_all(
     row: &mut [u8],
     text: &mut [u32],
     out: &mut [u8],
-) -> State
+) -> Result<State, Failure>
     requires { Rooms program line.old points.old row.old text.old out.old }
+    ensures { IfErr result IsTold }
 {
     let mut at = 0;
     let mut count = held;
@@ -62,23 +97,25 @@ fn answer_all(
         at = taken.next;
         count = taken.held;
         if taken.ended {
-            if !answer(program, line, count, points, row, text, out) {
-                return State {
+            if !answer(output, program, line, count, points, row, text, out)? {
+                return Ok(State {
                     held: 0,
                     is_open: false,
-                };
+                });
             }
             count = 0;
         }
     }
-    State {
+    Ok(State {
         held: count,
         is_open: true,
-    }
+    })
 }
 
-// Reads to the end of the input. A proved loop has to end, and nothing says that an input does: so the turns are counted down, from a number that no run uses up.
+// Reads to the end of the input. A proved loop has to end, and nothing says that an input does: so the turns are counted, up to a number that no run reaches.
 fn filter(
+    mut input: Stdin,
+    output: Stdout,
     program: Program,
     chunk: &mut [u8],
     line: &mut [u8],
@@ -86,35 +123,43 @@ fn filter(
     row: &mut [u8],
     text: &mut [u32],
     out: &mut [u8],
-)
+) -> Result<(), Failure>
     requires { Rooms program line.old points.old row.old text.old out.old }
+    ensures { IfErr result IsTold }
 {
     let mut held = 0;
-    let mut turns = u64::MAX;
-    while turns > 0 {
-        turns -= 1;
-        let got = libc::read(STDIN_FILENO, chunk);
-        if got < 0 {
-            os::fail(b"standard input");
-            return;
-        }
-        let n = io::count(got, chunk);
+    for _ in 0..u64::MAX {
+        let n = input.read(chunk).map_err(Failure::Input)?;
         if n == 0 {
             // "and so does the end of the input after at least one byte"
             if held > 0 {
-                answer(program, line, held, points, row, text, out);
+                answer(output, program, line, held, points, row, text, out)?;
             }
-            return;
+            return Ok(());
         }
-        let state = answer_all(program, &chunk[..n], line, held, points, row, text, out);
+        let state = answer_all(
+            output,
+            program,
+            &chunk[..n],
+            line,
+            held,
+            points,
+            row,
+            text,
+            out,
+        )?;
         if !state.is_open {
-            return;
+            return Ok(());
         }
         held = state.held;
     }
+    Ok(())
 }
 
-pub fn run(program: Program) {
+// A failure leaves nothing behind: the rooms are the program's own.
+pub fn run(input: Stdin, output: Stdout, program: Program) -> Result<(), Failure>
+    ensures { IfErr result IsTold }
+{
     let mut chunk = [0u8; CHUNK];
     let mut line = [0u8; LONGEST_ROW_LINE];
     let mut points = [0u32; LONGEST_ROW_LINE];
@@ -123,6 +168,8 @@ pub fn run(program: Program) {
     let mut out = [0u8; MOST_BYTES];
     let longest = limits::longest_line(program);
     filter(
+        input,
+        output,
         program,
         &mut chunk,
         &mut line[..longest],
@@ -130,5 +177,5 @@ pub fn run(program: Program) {
         &mut row,
         &mut text,
         &mut out,
-    );
+    )
 }

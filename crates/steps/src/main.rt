@@ -1,6 +1,8 @@
 // The proofing screen on paper: rows of cells to their signs, each with its place.
 #![tactic(auto)]
 
-fn main() {
-    filters::run(limits::Program::Steps);
+use filters::Failure;
+
+fn main(rt: HostRuntime) -> Result<(), Failure> {
+    filters::run(rt.stdin(), rt.stdout(), limits::Program::Steps)
 }
