@@ -24,18 +24,15 @@ archive=target/staticlib/libdesk.a
 room=$(mktemp -d) || exit 2
 trap 'rm -rf "$room"' EXIT
 trap 'exit 130' HUP INT TERM
-link_toolchain "$room/toolchain" "$jumps" || exit 2
-
-# The libraries that stand behind a crate's name in crates.txt.
-libraries_of() { # NAME
-    awk -v name="$1" '{ sub(/#.*/, ""); head = $0; sub(/:.*/, "", head); split(head, word, " ") }
-        word[1] == name { sub(/^[^:]*:?/, ""); print }' crates.txt
-}
+link_toolchain "$room/toolchain" <<TEXT || exit 2
+#!/bin/sh
+exec '$toolchain/bin/clang' "\$@" $jumps
+TEXT
 
 # What `rt lib` calls in crates/desk_c, but for the toolchain; and nothing is taken from earlier checks of desk_c.
 compile() {
     set -- --crate-name desk_c src/lib.rt --extern "std=$kit/rlibs/std.rlib" -L "dependency=$kit/rlibs"
-    for library in $(libraries_of desk_c); do
+    for library in $(libraries_of desk_c crates.txt); do
         set -- "$@" --extern "$library=$top/crates/$library/out/rlib/$library.rlib"
     done
     for folder in crates/*/out/rlib; do
