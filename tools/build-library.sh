@@ -33,7 +33,8 @@ TEXT
 compile() {
     set -- --crate-name desk_c src/lib.rt --extern "std=$kit/rlibs/std.rlib" -L "dependency=$kit/rlibs"
     for library in $(libraries_of desk_c crates.txt); do
-        set -- "$@" --extern "$library=$top/crates/$library/out/rlib/$library.rlib"
+        if [ -d "crates/$library" ]; then built=$top/crates/$library/out/rlib; else built=$kit/rlibs; fi
+        set -- "$@" --extern "$library=$built/$library.rlib"
     done
     for folder in crates/*/out/rlib; do
         set -- "$@" -L "dependency=$top/$folder"
