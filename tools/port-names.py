@@ -36,6 +36,15 @@ AMENDED = [
     ("in_denominator_lem", "is_in_denominator", ""),
     ("after_digit_lem", "past_after_digit", ""),
 ]
+# Names that stand several in a line where they are declared (constructors, and cases of one statement), and names of what a proof is given.
+ALSO = """
+    a-digit a-hyphen a-lower-zero aBar aComma aDash aHyphen aPercent aStop aToJ allCapitals bar-on breaksPair caps-on count-on digits-on firstDigit
+    firstLower fractionBar freeState higher-is is-before is-behind is-capital is-count is-d is-e is-k is-mixed is-n is-new is-point is-run is-s is-w its-
+    deed its-mode its-point lacksSign low-is lower-is mixed-on not-nought oneCapital ordinalMark otherDigit otherSign otherSmall part-is past-bar past-
+    dash past-feminine past-hyphen past-on past-percent past-point plain-on shows-g some-mark some-point some-run stop-on there-is wasOpen
+""".split()
+# Of these, those whose new name a definition has already.
+ALSO_AMENDED = {"is-point": "point_is", "is-capital": "capital_is", "past-point": "past_point_lem"}
 TOKEN = re.compile(r"[^\s(){}.;,@\"«»`\[\]|]+")
 
 
@@ -82,6 +91,10 @@ def table(found):
             new += "_lem"
         assert new not in taken, (name, new)
         taken.add(new)
+        rows[name] = new
+    for name in ALSO:
+        new = ALSO_AMENDED.get(name, spelled(name))
+        assert new not in taken, (name, new)
         rows[name] = new
     return rows
 

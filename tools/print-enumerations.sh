@@ -8,9 +8,9 @@
 # The members are read from the declarations, so that they stand in one place only. A declaration looks like
 #
 #     pub data Class : Type 0 where
-#       aToJ otherSmall capital one : Class
+#       a_to_j other_small capital one : Class
 #       -- a comment
-#       aStop aComma : Class
+#       a_stop a_comma : Class
 #
 # Nothing printed is trusted: the prover refuses a member that is left out or that stands at another place than its number.
 # To add an enumeration, add a line to the table below: its name, the file that declares it, and the name of the `Finite`

@@ -323,7 +323,7 @@ BEGIN {
     class_of["comma"] = "COMMA"
     class_of["hyphen"] = "HYPHEN"
     class_of["dash"] = "DASH"
-    class_of["fractionBar"] = "BAR"
+    class_of["fraction_bar"] = "BAR"
     class_of["(ordinal false)"] = "MASCULINE"
     class_of["(ordinal true)"] = "FEMININE"
 

@@ -9,7 +9,7 @@ use lib.Dec.{T, eqb, ltb, eqb→eq, ltb→lt}
 use borrow.Author.Tests.{ne_eqb}
 use Rattle.rules.specs.Sorts.{Class, class_number, capital}
 use Rattle.rules.specs.Signs.{Way}
-use Rattle.rules.specs.Places.{lacksSign, breaksPair, outside_form, shares_cells, Outcome, fault, silent, sign}
+use Rattle.rules.specs.Places.{lacks_sign, breaks_pair, outside_form, shares_cells, Outcome, fault, silent, sign}
 use Rattle.rules.proofs.Finite.{below, at_below, every, every2, at2, every3, at3, implies, false_of, is_true_of_eqb, beq_same, hold, holds, Hold}
 use Rattle.rules.proofs.States.{Past, Future}
 use Rattle.rules.proofs.Enumerations.{pasts, classes, futures, ways}
@@ -209,8 +209,8 @@ faultless (sign w) = true
 pub done_is : (c : Class) (x : Outcome) (s : ℕ) → s < state.states → act_of c x s < act.questions
     → (faultless x ≡ true) × (act_of c x s / act.ways ≡ s) × (act_of c x s % act.ways ≡ way_number c x)
 unfolding act_of way_number
-done_is c (fault lacksSign) s l h = absurd (omega (arith, h))
-done_is c (fault breaksPair) s l h = absurd (omega (arith, h))
+done_is c (fault lacks_sign) s l h = absurd (omega (arith, h))
+done_is c (fault breaks_pair) s l h = absurd (omega (arith, h))
 done_is c (fault outside_form) s l h = absurd (omega (arith, h))
 done_is c (fault shares_cells) s l h = absurd (omega (arith, h))
 done_is c silent s l h = (refl, (parted s (silent_as c) l (silent_small c)).1, (parted s (silent_as c) l (silent_small c)).2)
@@ -230,13 +230,13 @@ then_small c = ltb→lt (then_of c) state.states (classes.at (λ c. ltb (then_of
 
 -- no outcome of a place is a broken pair: the pair rule is apart from the others
 unpaired : Outcome → Bool
-unpaired (fault lacksSign) = true
-unpaired (fault breaksPair) = false
+unpaired (fault lacks_sign) = true
+unpaired (fault breaks_pair) = false
 unpaired (fault outside_form) = true
 unpaired (fault shares_cells) = true
 unpaired silent = true
 unpaired (sign w) = true
 
-pub never_paired : (p : Past) (c : Class) (f : Future) → rule p c f ≡ fault breaksPair → ⊥
+pub never_paired : (p : Past) (c : Class) (f : Future) → rule p c f ≡ fault breaks_pair → ⊥
 unfolding unpaired rule
 never_paired p c f e = subst (λ (x : Outcome). T (unpaired x)) e (at3 pasts classes futures (λ p c f. unpaired (rule p c f)) tt p c f)

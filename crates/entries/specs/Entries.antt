@@ -2,7 +2,7 @@
 -- the word of a sort and of a code point. The code's constants are these (src/lib.rt). Assumes nothing.
 use Rattle.std.specs.Prelude.{Bool, cond, List, [], ◌∷◌, ℕ, ◌+◌, ◌*◌, ◌/◌, ◌%◌, ◌^◌, eqb, get_or}
 use Rattle.std.proofs.Math.Option.{Option, none, some}
-use Rattle.rules.specs.Sorts.{Sort, Table, Class, aToJ, otherSmall, capital, one, otherDigit, aStop, aComma, aHyphen, aDash, aBar, masculine, feminine, aPercent, otherSign, unlisted, class, class_number}
+use Rattle.rules.specs.Sorts.{Sort, Table, Class, a_to_j, other_small, capital, one, other_digit, a_stop, a_comma, a_hyphen, a_dash, a_bar, masculine, feminine, a_percent, other_sign, unlisted, class, class_number}
 use Rattle.rules.specs.Signs.{own_cells, lower_cells}
 use Rattle.rules.specs.Pairs.{kinds, mark_of}
 use Rattle.rules.specs.Rows.{sort_in}
@@ -59,20 +59,20 @@ then_in e = e / then_at
 -- AS USUAL. The state after a code point that is written with its own cells alone, as most are in most states. (U+2044 has no cell of its own,
 -- and none is written for it.)
 unfoldable pub then_of : Class → ℕ
-then_of aToJ = mixed
-then_of otherSmall = mixed
+then_of a_to_j = mixed
+then_of other_small = mixed
 then_of capital = capitals
 then_of one = number
-then_of otherDigit = number
-then_of aStop = free
-then_of aComma = free
-then_of aHyphen = hyphened
-then_of aDash = dashed
-then_of aBar = barred
+then_of other_digit = number
+then_of a_stop = free
+then_of a_comma = free
+then_of a_hyphen = hyphened
+then_of a_dash = dashed
+then_of a_bar = barred
 then_of masculine = free
 then_of feminine = guarded
-then_of aPercent = free
-then_of otherSign = free
+then_of a_percent = free
+then_of other_sign = free
 then_of unlisted = free
 
 -- the states in which it is. (A small letter in a run that was supposed to be of capitals only is not: such a run is drawn anew, `Supposing` of the crate `passes`.)
@@ -84,20 +84,20 @@ but n [] = []
 but n (m ∷ ms) = cond (eqb n m) (but n ms) (m ∷ but n ms)
 
 unfoldable pub usual_states : Class → List ℕ
-usual_states aToJ = but capitals (but number (but under (but guarded every)))
-usual_states otherSmall = but capitals every
+usual_states a_to_j = but capitals (but number (but under (but guarded every)))
+usual_states other_small = but capitals every
 usual_states capital = capitals ∷ []
 usual_states one = number ∷ []
-usual_states otherDigit = number ∷ []
-usual_states aStop = but number (but lowered every)
-usual_states aComma = but number every
-usual_states aHyphen = but hyphened (but dashed every)
-usual_states aDash = but hyphened every
-usual_states aBar = lowered ∷ []
+usual_states other_digit = number ∷ []
+usual_states a_stop = but number (but lowered every)
+usual_states a_comma = but number every
+usual_states a_hyphen = but hyphened (but dashed every)
+usual_states a_dash = but hyphened every
+usual_states a_bar = lowered ∷ []
 usual_states masculine = ordinal ∷ []
 usual_states feminine = ordinal ∷ []
-usual_states aPercent = every
-usual_states otherSign = every
+usual_states a_percent = every
+usual_states other_sign = every
 usual_states unlisted = []
 
 -- a bit for each state

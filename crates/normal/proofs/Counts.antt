@@ -32,10 +32,10 @@ length_point : (d : Bool) (c : ℕ) → length (becomes d c) ≡ 1 + 2 * one_if 
 length_point d c = go (d && is_ordinal_point c) (eqb c (code "…")) refl refl
   where
     go : (s e : Bool) → d && is_ordinal_point c ≡ s → eqb c (code "…") ≡ e → length (becomes d c) ≡ 1 + 2 * one_if e + one_if s
-    go true true is-s is-e = absurd (no_ellipsis d c is-s is-e)
-    go true false is-s is-e = ap length (stop_before d c true (sym is-s) refl)
-    go false true is-s is-e = ap length (three_stops d c false (sym is-s) refl (eqb-true c (code "…") is-e))
-    go false false is-s is-e = ap length (no_stop d c false (sym is-s) refl) ∙ one c (eqb-false c (code "…") is-e)
+    go true true is_s is_e = absurd (no_ellipsis d c is_s is_e)
+    go true false is_s is_e = ap length (stop_before d c true (sym is_s) refl)
+    go false true is_s is_e = ap length (three_stops d c false (sym is_s) refl (eqb-true c (code "…") is_e))
+    go false false is_s is_e = ap length (no_stop d c false (sym is_s) refl) ∙ one c (eqb-false c (code "…") is_e)
 
 -- A PRINT
 length_after : (d : Bool) (p : Text) → length (normal_after d p) ≡ length p + 2 * ellipses_in p + stops_after d p

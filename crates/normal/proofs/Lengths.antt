@@ -33,25 +33,25 @@ reported_short n h =
 
 module _ (p : Text) where
   -- the ends of `normalise`
-  module _ (lent : List ℕ) (n : ℕ) (is-n : n ≡ reported (length (normal_of p))) where
+  module _ (lent : List ℕ) (n : ℕ) (is_n : n ≡ reported (length (normal_of p))) where
     abbrev pub Answered : Normalised → List ℕ → Type 0
     Answered r new = (r ≡ normalised_of p (length lent)) × (new ≡ copy_of p lent)
 
     pub too_long : longest_text < n → Answered (made.NoRoom n) lent
     unfolding normalised_of copy_of
     too_long l =
-        let k : longest_text < length (normal_of p) = omega (arith, reported_le (length (normal_of p)), is-n) in
-        rw (lt-leb (length (normal_of p)) longest_text k) (ap made.NoRoom is-n, refl)
+        let k : longest_text < length (normal_of p) = omega (arith, reported_le (length (normal_of p)), is_n) in
+        rw (lt-leb (length (normal_of p)) longest_text k) (ap made.NoRoom is_n, refl)
 
     module _ (short : n ≤ longest_text) where
       pub length_is : n ≡ length (normal_of p)
-      length_is = is-n ∙ reported_short (length (normal_of p)) (omega (arith, is-n))
+      length_is = is_n ∙ reported_short (length (normal_of p)) (omega (arith, is_n))
 
       pub cramped : length lent < n → Answered (made.NoRoom n) lent
       unfolding normalised_of copy_of
       cramped l =
           let k : length lent < length (normal_of p) = omega (arith, length_is) in
-          rw (lt-leb (length (normal_of p)) (length lent) k, and_false (leb (length (normal_of p)) longest_text)) (ap made.NoRoom is-n, refl)
+          rw (lt-leb (length (normal_of p)) (length lent) k, and_false (leb (length (normal_of p)) longest_text)) (ap made.NoRoom is_n, refl)
 
       pub copied : n ≤ length lent → (r : ℕ) (new : List ℕ) → r ≡ length (normal_of p) → new ≡ laid (normal_of p) lent → Answered (made.Text r) new
       unfolding normalised_of copy_of

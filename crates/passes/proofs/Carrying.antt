@@ -10,7 +10,7 @@ use lib.Dec.{eqb}
 use lib.ListN.{length, take, get_or, set, length-set}
 use lib.Seq.{take-set-le}
 use borrow.Author.Tests.{eqb-true, eqb-false, ne_eqb}
-use Rattle.rules.specs.Sorts.{Sort, letter, digit, full_stop, comma, hyphen, dash, fractionBar, ordinal, pair_mark, percent, plain, no_sign, Table, Class, class, class_number, capital}
+use Rattle.rules.specs.Sorts.{Sort, letter, digit, full_stop, comma, hyphen, dash, fraction_bar, ordinal, pair_mark, percent, plain, no_sign, Table, Class, class, class_number, capital}
 use Rattle.rules.specs.Pairs.{mark_of}
 use Rattle.rules.specs.Rows.{sort_in}
 use Rattle.rules.proofs.Sides.{mixed_next}
@@ -37,7 +37,7 @@ capital_unmarked (full_stop b) e = refl
 capital_unmarked comma e = refl
 capital_unmarked hyphen e = refl
 capital_unmarked dash e = refl
-capital_unmarked fractionBar e = refl
+capital_unmarked fraction_bar e = refl
 capital_unmarked (ordinal b) e = refl
 capital_unmarked (pair_mark k b w) e = absurd (omega (arith, e))
 capital_unmarked (percent w) e = refl
@@ -82,10 +82,10 @@ module _ (tb : Table) (h : Held tb) (text signs₁ : List ℕ) (begun counted fr
 
     pub reached : (w : ℕ) → (i < length text → w ≡ e) → (i < length text → usual_in e state ≡ false)
         → Carried tb text signs₁ signs begun counted from (record { place = i; entry = w; state = state; cells = n })
-    reached w is-w unusual =
+    reached w is_w unusual =
         record {
           on = u.on;
-          word = is-w;
+          word = is_w;
           asks = unusual;
           same = u.same;
           kept = u.kept;
@@ -94,7 +94,7 @@ module _ (tb : Table) (h : Held tb) (text signs₁ : List ℕ) (begun counted fr
           carries = u.carries;
         }
 
-    module _ (l : i < length text) (w k : ℕ) (new : List ℕ) (count : ℕ) (is-new : new ≡ set signs i w) (is-count : count ≡ n + k) where
+    module _ (l : i < length text) (w k : ℕ) (new : List ℕ) (count : ℕ) (is_new : new ≡ set signs i w) (is_count : count ≡ n + k) where
       -- s is the state after it: of a run of capitals only where this one is, and as long as it is, the run leaves open what is ahead
       under_on : (s : ℕ) → k ≤ 3 → s < states → (s ≡ capitals → state ≡ capitals)
           → (state ≡ capitals → mixed_next (future_at tb text i) ≡ cond (eqb s capitals) (mixed_next (future_at tb text (i + 1))) false)
@@ -104,10 +104,10 @@ module _ (tb : Table) (h : Held tb) (text signs₁ : List ℕ) (begun counted fr
           record {
             on = omega (arith, u.on);
             inside = omega arith;
-            same = ap length is-new ∙ length-set signs i w ∙ u.same;
-            low = omega (arith, u.low, is-count);
+            same = ap length is_new ∙ length-set signs i w ∙ u.same;
+            low = omega (arith, u.low, is_count);
             small = small;
-            kept = ap (take from) is-new ∙ take-set-le from signs i w u.on ∙ u.kept;
+            kept = ap (take from) is_new ∙ take-set-le from signs i w u.on ∙ u.kept;
             still = λ e. u.still (back e);
             run = λ b. go (eqb state capitals) refl (u.run b);
             carries = λ signs₀ opened m. f signs₀ opened (u.carries signs₀ opened m);
@@ -124,13 +124,13 @@ module _ (tb : Table) (h : Held tb) (text signs₁ : List ℕ) (begun counted fr
 
       pub under_usual : usual_in e state ≡ true → (s : ℕ) → w ≡ sign_in e → s ≡ then_in e → k ≡ count_of w → k ≤ 3
           → Under tb text signs₁ new begun counted from s count (i + 1)
-      under_usual usual s is-w is-s is-k few =
+      under_usual usual s is_w is_s is_k few =
           under_on s few (subst (λ (j : ℕ). j < states) (sym is_then) (then_small here)) (λ j. usual_from_capitals state here (future_at tb text (i + 1)) u.small told (sym is_then ∙ j))
           (λ j. ap mixed_next (future_step tb h.zero text i) ∙ usual_in_capitals state here (future_at tb text (i + 1)) u.small told j
           ∙ ap (λ (t : ℕ). cond (eqb t capitals) (mixed_next (future_at tb text (i + 1))) false) (sym is_then))
           (λ signs₀ opened m. mid_on tb h text signs₀ signs opened state n i m l opened
           (passed_usual tb h text m.past i state m.at usual opened m.few opened refl) w s k
-          (went_usual tb h text m.past i state m.at usual w s is-w is-s) is-k new count is-new is-count)
+          (went_usual tb h text m.past i state m.at usual w s is_w is_s) is_k new count is_new is_count)
         where
           here : Class
           here = class (sort_in tb (get_or text i 0))
@@ -139,25 +139,25 @@ module _ (tb : Table) (h : Held tb) (text signs₁ : List ℕ) (begun counted fr
           told = h.words.usual_class (get_or text i 0) state u.small usual
 
           is_then : s ≡ then_of here
-          is_then = is-s ∙ h.words.then_is (get_or text i 0)
+          is_then = is_s ∙ h.words.then_is (get_or text i 0)
 
       pub under_capital : state ≡ mixed → class_in e ≡ class_number capital → w ≡ sign_by act.one_capital_way e → k ≡ 2
           → Under tb text signs₁ new begun counted from state count (i + 1)
       unfolding mark_number
-      under_capital is-mixed is-capital is-w is-k =
-          under_on state (omega (arith, is-k)) u.small (λ j. j) (λ j. absurd (omega (arith, j, is-mixed)))
+      under_capital is_mixed capital_is is_w is_k =
+          under_on state (omega (arith, is_k)) u.small (λ j. j) (λ j. absurd (omega (arith, j, is_mixed)))
           (λ signs₀ opened m. mid_on tb h text signs₀ signs opened state n i m l opened
           (passed_none tb h text opened i m.few unmarked opened refl) w state k
-          (went_deed tb h text m.past i state m.at act.capital_alone (deed_told m.past) (omega arith) w state is-w is-mixed)
-          (is-k ∙ two_cells e ∙ ap count_of (sym is-w)) new count is-new is-count)
+          (went_deed tb h text m.past i state m.at act.capital_alone (deed_told m.past) (omega arith) w state is_w is_mixed)
+          (is_k ∙ two_cells e ∙ ap count_of (sym is_w)) new count is_new is_count)
         where
           unmarked : mark_in e ≡ 0
           unmarked =
               h.words.mark_is (get_or text i 0)
-              ∙ ap mark_number (capital_unmarked (sort_in tb (get_or text i 0)) (sym (h.words.class_is (get_or text i 0)) ∙ is-capital))
+              ∙ ap mark_number (capital_unmarked (sort_in tb (get_or text i 0)) (sym (h.words.class_is (get_or text i 0)) ∙ capital_is))
 
           deed_told : (past : _) → act.capital_alone ≡ settled_by (deed_of state (class_in e)) (ahead tb h text i past)
           deed_told past =
-              sym (ap (λ (s : ℕ). settled_by (deed_of s (class_in e)) (ahead tb h text i past)) is-mixed
-              ∙ ap (λ (c : ℕ). settled_by (deed_of mixed c) (ahead tb h text i past)) is-capital
+              sym (ap (λ (s : ℕ). settled_by (deed_of s (class_in e)) (ahead tb h text i past)) is_mixed
+              ∙ ap (λ (c : ℕ). settled_by (deed_of mixed c) (ahead tb h text i past)) capital_is
               ∙ mixed_capital (ahead tb h text i past))

@@ -13,13 +13,13 @@ use borrow.Author.Tests.{eq-eqb, ne_eqb}
 use Rattle.rules.specs.Cells.{Row}
 use Rattle.rules.specs.Sorts.{Table, class}
 use Rattle.rules.specs.Pairs.{Opens, mark_of, fits, turn}
-use Rattle.rules.specs.Places.{lacksSign, breaksPair, outside_form, shares_cells, Outcome, fault, silent, sign}
+use Rattle.rules.specs.Places.{lacks_sign, breaks_pair, outside_form, shares_cells, Outcome, fault, silent, sign}
 use Rattle.rules.specs.Rows.{sort_in, Verdict, good, bad, judge, verdict_of}
 use Rattle.rules.proofs.Finite.{le_or_lt}
 use Rattle.rules.proofs.States.{Past, free}
 use Rattle.rules.proofs.Sides.{outcome_cells, row_on, verdict_on}
 use Rattle.rules.proofs.Rows.{whole_row}
-use Rattle.entries.specs.States.{free as freeState, states}
+use Rattle.entries.specs.States.{free as free_state, states}
 use Rattle.entries.specs.SignWords.{cells_in, count_of}
 use Rattle.entries.specs.Entries.{entry_of, class_in, sign_in, then_in, mark_in, usual_in, marks, mark_number}
 use Rattle.entries.proofs.SignWords.{cells_length}
@@ -69,7 +69,7 @@ module _ (tb : Table) (h : Held tb) (text : List ℕ) where
         let q : mark_of (sort_in tb c) ≡ none = mark_none (mark_of (sort_in tb c)) (sym (h.words.mark_is c) ∙ e) in
         subst (Passed tb text opened i) (sym same) (record { stands = rw q; turns = rw q; few = few })
 
-    module _ (m : ℕ) (is_m : m ≡ mark_in (entry_of tb c)) (some-mark : 0 < m) where
+    module _ (m : ℕ) (is_m : m ≡ mark_in (entry_of tb c)) (some_mark : 0 < m) where
       number : m ≡ mark_number (mark_of (sort_in tb c))
       number = is_m ∙ h.words.mark_is c
 
@@ -78,7 +78,7 @@ module _ (tb : Table) (h : Held tb) (text : List ℕ) where
 
       says : mark_of (sort_in tb c) ≡ some (kind_by m, opener_by m)
       says =
-          mark_says (mark_of (sort_in tb c)) (subst (λ (k : ℕ). 0 < k) number some-mark) (subst (λ (k : ℕ). k < marks) number mark_small)
+          mark_says (mark_of (sort_in tb c)) (subst (λ (k : ℕ). 0 < k) number some_mark) (subst (λ (k : ℕ). k < marks) number mark_small)
           ∙ ap (λ (k : ℕ). some (kind_by k, opener_by k)) (sym number)
 
       mean : (p : Pairs) → pairs_by opened m ≡ p → Means opened (kind_by m) few (kind_small m mark_small) (opener_by m) p
@@ -105,17 +105,17 @@ module _ (tb : Table) (h : Held tb) (text : List ℕ) where
     pub state_small : state < states
     state_small = subst (λ (s : ℕ). s < states) (sym at) (stage_small past (future_at tb text i))
 
-    module _ (d : ℕ) (is-d : d ≡ settled_by (deed_of state (class_in e)) (ahead tb h text i past)) where
+    module _ (d : ℕ) (is_d : d ≡ settled_by (deed_of state (class_in e)) (ahead tb h text i past)) where
       pub act_is : d ≡ act_here tb h text i past
-      act_is = deed_is tb h text i past state d at is-d
+      act_is = deed_is tb h text i past state d at is_d
 
       -- by its deed
       pub went_deed : d < act.questions → (w s : ℕ) → w ≡ sign_by (d % act.ways) e → s ≡ d / act.ways → Went past i w s
-      went_deed l w s is-w is-s =
+      went_deed l w s is_w is_s =
           record {
             fine = no_fault tb h text i past d act_is l;
-            cells = ap cells_in is-w ∙ cells_here tb h text i past d act_is l;
-            leads = is-s ∙ state_after tb h text i past d act_is l;
+            cells = ap cells_in is_w ∙ cells_here tb h text i past d act_is l;
+            leads = is_s ∙ state_after tb h text i past d act_is l;
           }
 
     -- as usual: its own cells, and the state that its word leads to
@@ -125,14 +125,14 @@ module _ (tb : Table) (h : Held tb) (text : List ℕ) where
 
       pub went_usual : (w s : ℕ) → w ≡ sign_in e → s ≡ then_in e → Went past i w s
       unfolding sign_by
-      went_usual w s is-w is-s =
+      went_usual w s is_w is_s =
           let t : then_in e < states = subst (λ (n : ℕ). n < states) (sym (h.words.then_is (get_or text i 0))) (then_small (class (sort_here tb h text i past))) in
           let q = parted (then_in e) act.bare_way t (omega arith) in
           went_deed (then_in e * act.ways + act.bare_way) (usual_deed tb h text i past state state_small u) q.0 w s
-          (is-w ∙ ap (λ (k : ℕ). sign_by k e) (sym q.2)) (is-s ∙ sym q.1)
+          (is_w ∙ ap (λ (k : ℕ). sign_by k e) (sym q.2)) (is_s ∙ sym q.1)
 
   -- A TURN
-  pub mid_start : (signs : List ℕ) → length text ≤ length signs → Mid tb text signs signs 0 freeState 0 0
+  pub mid_start : (signs : List ℕ) → length text ≤ length signs → Mid tb text signs signs 0 free_state 0 0
   unfolding stage_at
   mid_start signs room =
       record {
@@ -156,7 +156,7 @@ module _ (tb : Table) (h : Held tb) (text : List ℕ) where
   module _ (signs₀ signs : List ℕ) (opened state n i : ℕ) (m : Mid tb text signs₀ signs opened state n i) where
     module _ (l : i < length text) where
       pub mid_broken : fits (opens_of opened) (sort_in tb (get_or text i 0)) ≡ false → Refused (PairBroken i) ≡ measured_of tb text
-      mid_broken e = told (bad breaksPair i) (sym (verdict_here tb h text i m.past l (opens_of opened) ∙ rw e) ∙ m.whole)
+      mid_broken e = told (bad breaks_pair i) (sym (verdict_here tb h text i m.past l (opens_of opened) ∙ rw e) ∙ m.whole)
 
       module _ (opens : ℕ) (p : Passed tb text opened i opens) where
         judged : (v : Verdict) → verdict_on (next tb h text i m.past) (opens_of opens) (i + 1) (items_from tb text (i + 1)) ≡ v
@@ -168,7 +168,7 @@ module _ (tb : Table) (h : Held tb) (text : List ℕ) where
         pub mid_fault : (d : ℕ) → d ≡ act_here tb h text i m.past
             → act.questions ≤ d → Refused (fault_by d i) ≡ measured_of tb text
         unfolding act_of fault_by
-        mid_fault d is-d q = go (outcome_here tb h text i m.past) refl
+        mid_fault d is_d q = go (outcome_here tb h text i m.past) refl
           where
             v : Verdict
             v = verdict_on (next tb h text i m.past) (opens_of opens) (i + 1) (items_from tb text (i + 1))
@@ -176,19 +176,19 @@ module _ (tb : Table) (h : Held tb) (text : List ℕ) where
             high : faultless (outcome_here tb h text i m.past) ≡ true → ⊥
             high e =
                 let k = done_low (class (sort_here tb h text i m.past)) (outcome_here tb h text i m.past) _ (stage_small (next tb h text i m.past) (ahead tb h text i m.past)) e in
-                omega (arith, k, is-d, q)
+                omega (arith, k, is_d, q)
 
             at_fault_lem : (x : Outcome) → outcome_here tb h text i m.past ≡ x
                 → (d ≡ act_of (class (sort_here tb h text i m.past)) x (stage_at (next tb h text i m.past) (ahead tb h text i m.past))) × (verdict_of tb text ≡ judge true x i v)
             at_fault_lem x e = (
-              is-d ∙ ap (λ (y : Outcome). act_of (class (sort_here tb h text i m.past)) y (stage_at (next tb h text i m.past) (ahead tb h text i m.past))) e,
+              is_d ∙ ap (λ (y : Outcome). act_of (class (sort_here tb h text i m.past)) y (stage_at (next tb h text i m.past) (ahead tb h text i m.past))) e,
               judged v refl ∙ ap (λ (y : Outcome). judge true y i v) e,
             )
 
             go : (x : Outcome) → outcome_here tb h text i m.past ≡ x → Refused (fault_by d i) ≡ measured_of tb text
-            go (fault lacksSign) e =
-                let f = at_fault_lem (fault lacksSign) e in ap (λ (k : ℕ). Refused (fault_by k i)) f.0 ∙ told (bad lacksSign i) (sym f.1)
-            go (fault breaksPair) e = absurd (never_paired m.past (class (sort_here tb h text i m.past)) (ahead tb h text i m.past) e)
+            go (fault lacks_sign) e =
+                let f = at_fault_lem (fault lacks_sign) e in ap (λ (k : ℕ). Refused (fault_by k i)) f.0 ∙ told (bad lacks_sign i) (sym f.1)
+            go (fault breaks_pair) e = absurd (never_paired m.past (class (sort_here tb h text i m.past)) (ahead tb h text i m.past) e)
             go (fault outside_form) e =
                 let f = at_fault_lem (fault outside_form) e in ap (λ (k : ℕ). Refused (fault_by k i)) f.0 ∙ told (bad outside_form i) (sym f.1)
             go (fault shares_cells) e =
@@ -198,7 +198,7 @@ module _ (tb : Table) (h : Held tb) (text : List ℕ) where
 
         -- the sign is stored, and its cells counted
         mid_next : (w s k : ℕ) → Went m.past i w s → k ≡ count_of w → Mid tb text signs₀ (set signs i w) opens s (n + k) (i + 1)
-        mid_next w s k g is-k =
+        mid_next w s k g is_k =
             let here : Row = outcome_cells (outcome_here tb h text i m.past) (sort_here tb h text i m.past) in
             let rest : Row = row_on (next tb h text i m.past) (items_from tb text (i + 1)) in
             let more : joined (take (i + 1) (set signs i w)) ≡ joined (take i signs) ++ cells_in w =
@@ -210,9 +210,9 @@ module _ (tb : Table) (h : Held tb) (text : List ℕ) where
               same = length-set signs i w ∙ m.same;
               few = p.few;
               at = g.leads;
-              low = omega (arith, m.low, is-k);
+              low = omega (arith, m.low, is_k);
               count =
-                  omega (arith, m.count, is-k, cells_length w, ap length more, length-append (joined (take i signs)) (cells_in w));
+                  omega (arith, m.count, is_k, cells_length w, ap length more, length-append (joined (take i signs)) (cells_in w));
               drawn =
                   ap (λ (r : Row). r ++ rest) (more ∙ ap (λ (r : Row). joined (take i signs) ++ r) g.cells)
                   ∙ append_assoc (joined (take i signs)) here rest
@@ -224,26 +224,26 @@ module _ (tb : Table) (h : Held tb) (text : List ℕ) where
 
         pub mid_on : (w s k : ℕ) → Went m.past i w s → k ≡ count_of w → (new : List ℕ) (count : ℕ) → new ≡ set signs i w → count ≡ n + k
             → Mid tb text signs₀ new opens s count (i + 1)
-        mid_on w s k g is-k new count is-new is-count =
-            subst (λ (j : ℕ). Mid tb text signs₀ new opens s j (i + 1)) (sym is-count)
-            (subst (λ (x : List ℕ). Mid tb text signs₀ x opens s (n + k) (i + 1)) (sym is-new) (mid_next w s k g is-k))
+        mid_on w s k g is_k new count is_new is_count =
+            subst (λ (j : ℕ). Mid tb text signs₀ new opens s j (i + 1)) (sym is_count)
+            (subst (λ (x : List ℕ). Mid tb text signs₀ x opens s (n + k) (i + 1)) (sym is_new) (mid_next w s k g is_k))
 
     module _ (l : length text ≤ i) where
       all_drawn : joined (take i signs) ≡ whole_row tb text
       all_drawn = sym (append-nil (joined (take i signs))) ∙ ap (λ (r : Row). joined (take i signs) ++ r) (sym (row_end tb h text i m.past l)) ∙ m.drawn
 
-      ended : cond (eqb opened 0) good (bad breaksPair i) ≡ verdict_of tb text
+      ended : cond (eqb opened 0) good (bad breaks_pair i) ≡ verdict_of tb text
       ended =
-          ap (λ (b : Bool). cond b good (bad breaksPair i)) (sym (closed_is opened m.few))
+          ap (λ (b : Bool). cond b good (bad breaks_pair i)) (sym (closed_is opened m.few))
           ∙ sym (verdict_end tb h text i m.past (opens_of opened) l) ∙ m.whole
 
       pub mid_done : opened ≡ 0 → (Cells n ≡ measured_of tb text) × Drawn (Cells n) tb text (take (length text) signs)
       mid_done e =
           let k : i ≡ length text = omega (arith, m.inside) in (
             ap Cells (m.count ∙ ap length all_drawn)
-                ∙ told good (ap (λ (b : Bool). cond b good (bad breaksPair i)) (sym (eq-eqb opened 0 e)) ∙ ended),
+                ∙ told good (ap (λ (b : Bool). cond b good (bad breaks_pair i)) (sym (eq-eqb opened 0 e)) ∙ ended),
             ap (λ (j : ℕ). joined (take j signs)) (sym k) ∙ all_drawn,
           )
 
       pub mid_open : (opened ≡ 0 → ⊥) → Refused (PairBroken i) ≡ measured_of tb text
-      mid_open e = told (bad breaksPair i) (ap (λ (b : Bool). cond b good (bad breaksPair i)) (sym (ne_eqb opened 0 e)) ∙ ended)
+      mid_open e = told (bad breaks_pair i) (ap (λ (b : Bool). cond b good (bad breaks_pair i)) (sym (ne_eqb opened 0 e)) ∙ ended)

@@ -7,7 +7,7 @@ use lib.ListN.{length}
 use borrow.Author.Tests.{le-leb, lt-leb}
 use Rattle.rules.specs.Cells.{Text, Row}
 use Rattle.rules.specs.Sorts.{Table}
-use Rattle.rules.specs.Places.{lacksSign, breaksPair, outside_form, shares_cells}
+use Rattle.rules.specs.Places.{lacks_sign, breaks_pair, outside_form, shares_cells}
 use Rattle.rules.specs.Rows.{Verdict, good, bad, verdict_of}
 use Rattle.rules.proofs.Rows.{whole_row}
 use Rattle.rows.specs.Laid.{laid}
@@ -20,8 +20,8 @@ use Rattle.passes.specs.declared.Measured.TheVariants.{Cells, Refused}
 -- what is measured as cells is accepted, and the count is the row's
 shown_cells : (v : Verdict) (m n : ℕ) → shown v m ≡ Cells n → (v ≡ good) × (n ≡ m)
 shown_cells good m n e = (refl, cc)
-shown_cells (bad lacksSign i) m n e = let z : ◌≡◌ {A = ℕ} 0 1 = cc in absurd (omega arith)
-shown_cells (bad breaksPair i) m n e = let z : ◌≡◌ {A = ℕ} 0 1 = cc in absurd (omega arith)
+shown_cells (bad lacks_sign i) m n e = let z : ◌≡◌ {A = ℕ} 0 1 = cc in absurd (omega arith)
+shown_cells (bad breaks_pair i) m n e = let z : ◌≡◌ {A = ℕ} 0 1 = cc in absurd (omega arith)
 shown_cells (bad outside_form i) m n e = let z : ◌≡◌ {A = ℕ} 0 1 = cc in absurd (omega arith)
 shown_cells (bad shares_cells i) m n e = let z : ◌≡◌ {A = ℕ} 0 1 = cc in absurd (omega arith)
 

@@ -10,10 +10,10 @@ use lib.Dec.{T, eqb, eqb→eq}
 use lib.ListN.{length, get_or, drop_of_length-le}
 use lib.Seq.{drop-cons}
 use Rattle.rules.specs.Cells.{Row, dots}
-use Rattle.rules.specs.Sorts.{Sort, Table, Class, aToJ, capital, unlisted, class, class_number, is_digit_cell, ◌is◌, is_digit}
-use Rattle.rules.specs.Signs.{Way, bare, oneCapital, allCapitals, separated, firstDigit, firstLower, lower, denominator, ordinalMark, inside, own_cells, lower_cells, sign_cells}
+use Rattle.rules.specs.Sorts.{Sort, Table, Class, a_to_j, capital, unlisted, class, class_number, is_digit_cell, ◌is◌, is_digit}
+use Rattle.rules.specs.Signs.{Way, bare, one_capital, all_capitals, separated, first_digit, first_lower, lower, denominator, ordinal_mark, inside, own_cells, lower_cells, sign_cells}
 use Rattle.rules.specs.Pairs.{Opens, fits, turn, closed, mark_of, open_after}
-use Rattle.rules.specs.Places.{breaksPair, Outcome, fault, silent, sign}
+use Rattle.rules.specs.Places.{breaks_pair, Outcome, fault, silent, sign}
 use Rattle.rules.specs.Rows.{sort_in, item_in, items_in, Verdict, good, bad, judge, verdict_of}
 use Rattle.rules.specs.Castilian.{castilian}
 use Rattle.rules.proofs.Finite.{every, every3, at3, and_left, and_right, implies}
@@ -37,14 +37,14 @@ use Rattle.passes.specs.Passes.{sign_by, cells_by}
 -- THE CELLS. Which classes a way is for; the rules give it to no other.
 allowed : Way → Class → Bool
 allowed bare c = true
-allowed oneCapital c = c is capital
-allowed allCapitals c = c is capital
-allowed separated c = c is aToJ
-allowed firstDigit c = is_digit c
-allowed firstLower c = is_digit c
+allowed one_capital c = c is capital
+allowed all_capitals c = c is capital
+allowed separated c = c is a_to_j
+allowed first_digit c = is_digit c
+allowed first_lower c = is_digit c
 allowed lower c = is_digit c
 allowed denominator c = true
-allowed ordinalMark c = true
+allowed ordinal_mark c = true
 allowed inside c = true
 
 allowed_outcome : Outcome → Class → Bool
@@ -138,18 +138,18 @@ module _ (tb : Table) (h : Held tb) where
         ∙ sym (ap (λ (k : ℕ). settled_by (deed_of s k) ahead) (h.words.class_is c))
 
     -- a deed that is no fault: the state after it, and its cells
-    module _ (d : ℕ) (is-d : d ≡ act_here) where
+    module _ (d : ℕ) (is_d : d ≡ act_here) where
       facts : d < act.questions
           → (faultless outcome_here ≡ true) × (act_here / act.ways ≡ stage_at next ahead)
           × (act_here % act.ways ≡ way_number (class sort_here) outcome_here)
-      facts l = done_is (class sort_here) outcome_here (stage_at next ahead) (stage_small next ahead) (subst (λ (n : ℕ). n < act.questions) is-d l)
+      facts l = done_is (class sort_here) outcome_here (stage_at next ahead) (stage_small next ahead) (subst (λ (n : ℕ). n < act.questions) is_d l)
 
       pub state_after : d < act.questions → d / act.ways ≡ stage_at next ahead
-      state_after l = ap (λ (n : ℕ). n / act.ways) is-d ∙ (facts l).1
+      state_after l = ap (λ (n : ℕ). n / act.ways) is_d ∙ (facts l).1
 
       pub cells_here : d < act.questions → cells_by (d % act.ways) (entry_of tb (get_or text i 0)) ≡ outcome_cells outcome_here sort_here
       cells_here l =
-          ap (λ (n : ℕ). cells_by (n % act.ways) (entry_of tb (get_or text i 0))) is-d
+          ap (λ (n : ℕ). cells_by (n % act.ways) (entry_of tb (get_or text i 0))) is_d
           ∙ ap (λ (n : ℕ). cells_by n (entry_of tb (get_or text i 0))) (facts l).2
           ∙ cells_by_lem (get_or text i 0) outcome_here
           (at3 pasts classes futures (λ p c f. allowed_outcome (rule p c f) c) outcomes_allowed past (class sort_here) ahead) (facts l).0
@@ -158,7 +158,7 @@ module _ (tb : Table) (h : Held tb) where
       no_fault l = (facts l).0
 
       pub low_deed : faultless outcome_here ≡ true → d < act.questions
-      low_deed e = subst (λ (n : ℕ). n < act.questions) (sym is-d) (done_low (class sort_here) outcome_here (stage_at next ahead) (stage_small next ahead) e)
+      low_deed e = subst (λ (n : ℕ). n < act.questions) (sym is_d) (done_low (class sort_here) outcome_here (stage_at next ahead) (stage_small next ahead) e)
 
     -- the row and the verdict, from this place on
     module _ (inside : i < length text) where
@@ -181,7 +181,7 @@ module _ (tb : Table) (h : Held tb) where
   row_end text i p l = rw (drop_of_length-le text l)
 
   pub verdict_end : (text : List ℕ) (i : ℕ) (p : Past) (o : Opens) → length text ≤ i
-      → verdict_on p o i (items_from tb text i) ≡ cond (closed o) good (bad breaksPair i)
+      → verdict_on p o i (items_from tb text i) ≡ cond (closed o) good (bad breaks_pair i)
   unfolding verdict_on items_in
   verdict_end text i p o l = rw (drop_of_length-le text l)
 

@@ -115,14 +115,14 @@ module _ (tb : Table) (h : Held tb) (text signs₀ : List ℕ) where
       some_cell = anew.1
 
       pub undone : (w : ℕ) → w ≡ alone_of (get_or new (i - 1) 0) → Supposing tb text signs₀ (set new (i - 1) w) opened mixed (n - 1) i
-      undone w is-w =
+      undone w is_w =
           let j : ℕ = i - 1 in
           let b : j < i = omega (arith, some_place) in
           let x : ℕ = alone_of (get_or signs j 0) in
           let q : get_or new j 0 ≡ get_or signs j 0 = sym (get_or-take i new j 0 b) ∙ ap (λ (s : List ℕ). get_or s j 0) c.kept ∙ get_or-take i signs j 0 b in
           supposing (set new j w) opened mixed (n - 1) i
           (mid_kept (set signs j x) (set new j w) opened mixed (n - 1) i anew.2 (length-set new j w ∙ c.same ∙ sym (length-set signs j x))
-          (take-set-lt i new j w b ∙ ap (λ (s : List ℕ). set s j w) c.kept ∙ ap (λ (y : ℕ). set (take i signs) j y) (is-w ∙ ap alone_of q)
+          (take-set-lt i new j w b ∙ ap (λ (s : List ℕ). set s j w) c.kept ∙ ap (λ (y : ℕ). set (take i signs) j y) (is_w ∙ ap alone_of q)
           ∙ sym (take-set-lt i signs j x b)))
 
     -- up to anything else: no small letter is ahead in a run of capitals
@@ -155,39 +155,39 @@ module _ (tb : Table) (h : Held tb) (text signs₀ : List ℕ) where
     abbrev ahead : Future
     ahead = future_at tb text (i + 1)
 
-    module _ (d : ℕ) (few : d < act.questions) (w k : ℕ) (is-w : w ≡ sign_by (d % act.ways) e) (is-k : k ≡ count_of w)
-        (new : List ℕ) (count : ℕ) (is-new : new ≡ set signs i w) (is-count : count ≡ n + k) where
+    module _ (d : ℕ) (few : d < act.questions) (w k : ℕ) (is_w : w ≡ sign_by (d % act.ways) e) (is_k : k ≡ count_of w)
+        (new : List ℕ) (count : ℕ) (is_new : new ≡ set signs i w) (is_count : count ≡ n + k) where
       settled_so : d ≡ settled_by (deed_of state (class_in e)) ahead → Supposing tb text signs₀ new opens (d / act.ways) count (i + 1)
-      settled_so is-d =
+      settled_so is_d =
           supposing new opens (d / act.ways) count (i + 1)
           (mid_on tb h text signs₀ signs opened state n i m l opens p w (d / act.ways) k
-          (went_deed tb h text m.past i state m.at d is-d few w (d / act.ways) is-w refl) is-k new count is-new is-count)
+          (went_deed tb h text m.past i state m.at d is_d few w (d / act.ways) is_w refl) is_k new count is_new is_count)
 
       supposed_so : d ≡ act.first_of_capitals → deed_of state (class_in e) ≡ act.begins_run → mixed_next ahead ≡ true
           → Supposing tb text signs₀ new opens (d / act.ways) count (i + 1)
-      supposed_so is-d asked small =
+      supposed_so is_d asked small =
           record {
             inside = omega arith;
-            room = subst (λ (s : List ℕ). length text ≤ length s) (sym is-new) (subst (λ (j : ℕ). length text ≤ j) (sym (length-set signs i w)) m.room);
-            same = ap length is-new ∙ length-set signs i w ∙ m.same;
-            small = omega (arith, is-d);
-            low = omega (arith, m.low, is-count, three);
-            right = λ f. absurd (true≢false (sym small ∙ f (omega (arith, is-d))));
-            wrong = λ s b. (omega arith, omega (arith, is-count, three), alone);
+            room = subst (λ (s : List ℕ). length text ≤ length s) (sym is_new) (subst (λ (j : ℕ). length text ≤ j) (sym (length-set signs i w)) m.room);
+            same = ap length is_new ∙ length-set signs i w ∙ m.same;
+            small = omega (arith, is_d);
+            low = omega (arith, m.low, is_count, three);
+            right = λ f. absurd (true≢false (sym small ∙ f (omega (arith, is_d))));
+            wrong = λ s b. (omega arith, omega (arith, is_count, three), alone);
           }
         where
           way : w ≡ sign_by act.all_capitals_way e
-          way = is-w ∙ ap (λ (x : ℕ). sign_by (x % act.ways) e) is-d
+          way = is_w ∙ ap (λ (x : ℕ). sign_by (x % act.ways) e) is_d
 
           three : k ≡ 3
-          three = is-k ∙ ap count_of way ∙ first_count e
+          three = is_k ∙ ap count_of way ∙ first_count e
 
           -- its sign, made anew
           made : set new (i + 1 - 1) (alone_of (get_or new (i + 1 - 1) 0)) ≡ set signs i (sign_by act.one_capital_way e)
           made =
               let q : i + 1 - 1 ≡ i = omega arith in
               ap (λ (j : ℕ). set new j (alone_of (get_or new j 0))) q
-              ∙ ap (λ (s : List ℕ). set s i (alone_of (get_or s i 0))) is-new
+              ∙ ap (λ (s : List ℕ). set s i (alone_of (get_or s i 0))) is_new
               ∙ ap (λ (x : ℕ). set (set signs i w) i (alone_of x)) (get_or-set_same signs i w 0 (omega (arith, m.room)))
               ∙ set-set signs i w (alone_of w)
               ∙ ap (set signs i) (ap alone_of way ∙ first_alone e)
@@ -196,7 +196,7 @@ module _ (tb : Table) (h : Held tb) (text signs₀ : List ℕ) where
           alone =
               mid_on tb h text signs₀ signs opened state n i m l opens p (sign_by act.one_capital_way e) mixed 2
               (went_deed tb h text m.past i state m.at act.capital_alone (settled_mixed (deed_of state (class_in e)) ahead asked small) (omega arith)
-              (sign_by act.one_capital_way e) mixed refl refl) (two_cells e) _ (count - 1) made (omega (arith, is-count, three))
+              (sign_by act.one_capital_way e) mixed refl refl) (two_cells e) _ (count - 1) made (omega (arith, is_count, three))
 
       pub turned : Supposed (deed_of state (class_in e)) ahead d → Supposing tb text signs₀ new opens (d / act.ways) count (i + 1)
       turned (inl q) = settled_so q
@@ -216,7 +216,7 @@ at_most true = omega arith
 at_most false = omega arith
 
 pub less_anew : (long i s : ℕ) → s ≡ capitals → left long i mixed < left long i s
-less_anew long i s is-s = let q : ◌≡◌ {A = ℕ} (cond (eqb s capitals) 1 0) 1 = ap {B = ℕ} (λ (x : ℕ). cond (eqb x capitals) 1 0) is-s in omega (arith, q)
+less_anew long i s is_s = let q : ◌≡◌ {A = ℕ} (cond (eqb s capitals) 1 0) 1 = ap {B = ℕ} (λ (x : ℕ). cond (eqb x capitals) 1 0) is_s in omega (arith, q)
 
 pub less_on : (long i s j t : ℕ) → i < long → i < j → left long j t < left long i s
 less_on long i s j t l k = omega (arith, at_most (eqb t capitals), l, k)

@@ -3,7 +3,7 @@
 use Rattle.std.specs.Prelude.{Bool, ◌&&◌, cond, List, [], ◌∷◌, ◌≡◌, ℕ, eqb, leb, ltb, length}
 use Rattle.rules.specs.Cells.{Text, Row}
 use Rattle.rules.specs.Sorts.{Table, capital, class_number}
-use Rattle.rules.specs.Places.{lacksSign, breaksPair, outside_form, shares_cells}
+use Rattle.rules.specs.Places.{lacks_sign, breaks_pair, outside_form, shares_cells}
 use Rattle.rules.specs.Rows.{Verdict, good, bad, verdict_of}
 use Rattle.rules.proofs.Rows.{whole_row}
 use Rattle.entries.specs.Chosen.{choose}
@@ -62,8 +62,8 @@ fault_by d i = choose (faults i) d (SharesCells i)
 -- the rules' verdict, with the count of the row's cells
 abbrev pub shown : Verdict → ℕ → Measured
 shown good n = Cells n
-shown (bad lacksSign i) n = Refused (NoSign i)
-shown (bad breaksPair i) n = Refused (PairBroken i)
+shown (bad lacks_sign i) n = Refused (NoSign i)
+shown (bad breaks_pair i) n = Refused (PairBroken i)
 shown (bad outside_form i) n = Refused (OutsideForm i)
 shown (bad shares_cells i) n = Refused (SharesCells i)
 

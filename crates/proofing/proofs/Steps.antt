@@ -73,10 +73,10 @@ module _ (r : Row) (n : ℕ) where
   told_of g h = subst Told (sym h.shows) (told h.shown h.promise)
 
   pub refused_by : (g : desk.Sign) → ShowsSign castilian r n g → (g.number ≡ 0 → ⊥) → Refused g
-  refused_by g h not-nought = go (told_of g h)
+  refused_by g h not_nought = go (told_of g h)
     where
       go : Told g → Refused g
-      go (inl a) = absurd (not-nought a.0)
+      go (inl a) = absurd (not_nought a.0)
       go (inr x) = x
 
   pub accepted_by_lem : (g : desk.Sign) → ShowsSign castilian r n g → g.number ≡ 0 → Accepted r
@@ -97,8 +97,8 @@ module _ (line points row out points' row' : List ℕ) (n : ℕ) (shown : ShowsR
 
   pub ends_refused : (g : desk.Sign) → ShowsSign castilian (take n row') 0 g → (g.number ≡ 0 → ⊥)
       → (r : ℕ) (out' : List ℕ) → Prints out 0 (refusal_line g.number g.second) r out' → StepsLine line points row out r points' row' out' × (r ≤ length out')
-  ends_refused g h not-nought r out' p =
-      let x = refused_by (take n row') 0 g h not-nought in
+  ends_refused g h not_nought r out' p =
+      let x = refused_by (take n row') 0 g h not_nought in
       ended (refusal_line (number_of x.refusal) (second_of x.refusal))
       (prints_refusal x.refusal (subst (λ (k : Row). RowRefused castilian k x.refusal) (row_is line points row n points' row' shown) x.right)) r out'
       (prints_as out 0 _ _ r out' (ap (λ (k : ℕ). refusal_line k g.second) x.number ∙ ap (refusal_line (number_of x.refusal)) x.second) p)

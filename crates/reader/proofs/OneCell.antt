@@ -74,7 +74,7 @@ module _ (c : ℕ) where
   says : (p : ℕ) (v : Reading) → reading_of free (cell_from c) no_cell no_cell ≡ v → T (agrees p v) → Says p
   says p nothing e t = (
     λ z. none_left alone 0 0 0 (omega arith) (omega arith) (omega arith) (step_is nothing e),
-    λ some-point. absurd (some-point (eqb→eq p no_point t)),
+    λ some_point. absurd (some_point (eqb→eq p no_point t)),
   )
   says p (reads l q k m) e t =
       let ends : Bool = eqb k 1 && at_rest (mode_of m) in
@@ -91,7 +91,7 @@ module _ (c : ℕ) where
       turn.shows ∙ points_one l q (eqb→eq l no_point (and_left (eqb l no_point) (eqb q p && ends) t1))
       ∙ ap (λ (x : ℕ). x ∷ []) (eqb→eq q p (and_left (eqb q p) ends t2)) in (
         λ z. absurd (subst T (ap not (eq-eqb p no_point z)) (and_left (not (eqb p no_point)) is t)),
-        λ some-point.
+        λ some_point.
             record {
               sign = turn.sign;
               are = turn.signs_left ∙ ap (add_sign turn.sign) end;
@@ -109,7 +109,7 @@ module _ (c : ℕ) where
       ∙ ap (λ (b : Bool). cond (at_rest (mode_of 0) && b) (some []) none) (false_of (eqb (turned_by 0 k) 0) (and_right (eqb n 1) opens t1))
       ∙ ap (λ (b : Bool). cond b (some []) none) (and_false (at_rest (mode_of 0))) in (
         λ z. turn.signs_left ∙ ap (add_sign turn.sign) end,
-        λ some-point. absurd (some-point (eqb→eq p no_point (and_left (eqb p no_point) (eqb n 1 && opens) t))),
+        λ some_point. absurd (some_point (eqb→eq p no_point (and_left (eqb p no_point) (eqb n 1 && opens) t))),
       )
 
   pub cell_says : Says (point_in (word_of c))

@@ -11,7 +11,7 @@ use borrow.Author.Tests.{ne_eqb, leb-false}
 use Rattle.rules.specs.Cells.{Row, dots, cells, last_cell}
 use Rattle.rules.specs.Sorts.{among, digit_dots, is_digit_cell}
 use Rattle.rules.proofs.Finite.{nothing, every, and_left, and_right}
-use Rattle.rules.proofs.States.{Kind, a-digit, a-hyphen, a-lower-zero}
+use Rattle.rules.proofs.States.{Kind, a_digit, a_hyphen, a_lower_zero}
 use Rattle.rules.proofs.Reader.{Look, any, wants, shuns, beyond, begins_as, sees_two, open_at, sure, sees, match}
 use Rattle.readings.specs.Fields.{no_cell, cell_from}
 
@@ -34,15 +34,15 @@ among_high c (m ∷ ms) h t =
 
 begins_high : (k : Kind) (c : ℕ) → last_cell < c → begins_as k c beyond ≡ false
 unfolding begins_as is_digit_cell dots
-begins_high a-digit c h = among_high c (cells digit_dots) h tt
-begins_high a-hyphen c h = ne_eqb c 36 (λ e. omega (arith, e, h))
-begins_high a-lower-zero c h = ne_eqb c 52 (λ e. omega (arith, e, h))
+begins_high a_digit c h = among_high c (cells digit_dots) h tt
+begins_high a_hyphen c h = ne_eqb c 36 (λ e. omega (arith, e, h))
+begins_high a_lower_zero c h = ne_eqb c 52 (λ e. omega (arith, e, h))
 
 begins_beyond : (k : Kind) → begins_as k no_cell beyond ≡ false
 unfolding begins_as is_digit_cell dots
-begins_beyond a-digit = refl
-begins_beyond a-hyphen = refl
-begins_beyond a-lower-zero = refl
+begins_beyond a_digit = refl
+begins_beyond a_hyphen = refl
+begins_beyond a_lower_zero = refl
 
 begins_cell : (k : Kind) (c : ℕ) → begins_as k c beyond ≡ begins_as k (cell_from c) beyond
 begins_cell k c = go (leb c last_cell) refl
@@ -58,12 +58,12 @@ sees_cell (shuns k) c = ap not (begins_cell k c)
 
 never_open : (l : Look) (x : ℕ) → open_at l x ≡ false
 never_open any x = refl
-never_open (wants a-digit) x = refl
-never_open (wants a-hyphen) x = refl
-never_open (wants a-lower-zero) x = refl
-never_open (shuns a-digit) x = refl
-never_open (shuns a-hyphen) x = refl
-never_open (shuns a-lower-zero) x = refl
+never_open (wants a_digit) x = refl
+never_open (wants a_hyphen) x = refl
+never_open (wants a_lower_zero) x = refl
+never_open (shuns a_digit) x = refl
+never_open (shuns a_hyphen) x = refl
+never_open (shuns a_lower_zero) x = refl
 
 -- foresight is of one cell
 foresees : (l : Look) (y : ℕ) (r : Row) → Agree (y ∷ []) r → sees l r ≡ sees_two l y beyond

@@ -63,9 +63,9 @@ laid_none l n = take-append-drop n l
 pub laid_part : (l : List ℕ) (n : ℕ) (a ys : List ℕ) → n + length a ≤ length l → ys ≡ laid a (take (length l - n) (drop n l))
     → put_mid n (length l - n) l ys ≡ take n l ++ laid a (drop n l)
 laid_part l n a ys room wrote =
-    let part-is : take (length l - n) (drop n l) ≡ drop n l = take_all (length l - n) (drop n l) (rw length-drop (omega arith)) in
+    let part_is : take (length l - n) (drop n l) ≡ drop n l = take_all (length l - n) (drop n l) (rw length-drop (omega arith)) in
     let none_left : drop (length l - n) (drop n l) ≡ [] = drop_of_length-le (drop n l) {i = length l - n} (rw length-drop (omega arith)) in
-    rw (wrote, part-is, none_left, append-nil)
+    rw (wrote, part_is, none_left, append-nil)
 
 -- What a loop that lends `&mut out[n..]` to the writer of one sign has at the end of a turn. l is the lent row at the turn's start,
 -- ys what the writer left in the part, a the sign's cells and b those still to come.

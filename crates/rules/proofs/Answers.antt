@@ -14,7 +14,7 @@ use lib.ListN.{length, get_or}
 use Rattle.rules.specs.Cells.{Text, Row, last_cell}
 use Rattle.rules.specs.Sorts.{Table}
 use Rattle.rules.specs.Normal.{normal_of}
-use Rattle.rules.specs.Places.{Cause, lacksSign, breaksPair, outside_form, shares_cells}
+use Rattle.rules.specs.Places.{Cause, lacks_sign, breaks_pair, outside_form, shares_cells}
 use Rattle.rules.specs.Rows.{Reads, Accepted, Fault, FirstFault, Faultless, LeftOpen, Verdict, good, bad, verdict_of, signs_of}
 use Rattle.rules.specs.Refusals.{Refusal, too_long, at_fault, needs_room, not_a_cell, no_text, longest_text, longest_row, reported}
 use Rattle.rules.specs.Answers.{Answer, gives, refuses, PrintRefused, refused_too_long, no_sign, pair_broken, left_open, refused_outside_form, refused_shares_cells, row_needs_room, PrintAnswer, print_refused, transcribed, ProperRow, RowRefused, long_row, refused_not_a_cell, refused_no_text, long_text, ReadsAs, RowAnswer, row_refused, text_needs_room, read}
@@ -68,13 +68,13 @@ module _ (tb : Table) where
       go (bad d m) e (inl g) = e ∙ one_first t m n d c g f
       go (bad d m) e (inr g) = absurd (g.2 n c f.there)
 
-  open_verdict : (t : Text) → Faultless tb t → LeftOpen tb t → verdict_of tb t ≡ bad breaksPair (length t)
+  open_verdict : (t : Text) → Faultless tb t → LeftOpen tb t → verdict_of tb t ≡ bad breaks_pair (length t)
   open_verdict t f o = go (verdict_of tb t) refl (verdict_is_least tb t)
     where
-      go : (v : Verdict) → verdict_of tb t ≡ v → VerdictMeans tb t v → verdict_of tb t ≡ bad breaksPair (length t)
+      go : (v : Verdict) → verdict_of tb t ≡ v → VerdictMeans tb t v → verdict_of tb t ≡ bad breaks_pair (length t)
       go good e h = absurd (((row_exactly tb t).0 h).1 o)
       go (bad c n) e (inl g) = absurd (f n c g.there)
-      go (bad c n) e (inr g) = e ∙ ap (λ (x : Cause). bad x n) g.0 ∙ ap (bad breaksPair) g.1
+      go (bad c n) e (inr g) = e ∙ ap (λ (x : Cause). bad x n) g.0 ∙ ap (bad breaks_pair) g.1
 
   -- the answer, computed
   unfoldable pub answer : Text → ℕ → Answer
@@ -83,8 +83,8 @@ module _ (tb : Table) where
       (refuses (too_long (reported (length (normal_of p)))))
 
   refused_by : (t : Text) (room n : ℕ) (c : Cause) → length t ≤ longest_text → FirstFault tb t n c → PrintRefused tb t room (at_fault c n)
-  refused_by t room n lacksSign l f = no_sign n l f
-  refused_by t room n breaksPair l f = pair_broken n l f
+  refused_by t room n lacks_sign l f = no_sign n l f
+  refused_by t room n breaks_pair l f = pair_broken n l f
   refused_by t room n outside_form l f = refused_outside_form n l f
   refused_by t room n shares_cells l f = refused_shares_cells n l f
 
@@ -111,7 +111,7 @@ module _ (tb : Table) where
       short l (bad c n) (inl f) e = print_refused _ (refused_by (normal_of p) room n c l f)
       short l (bad c n) (inr f) e =
           subst (λ (x : Cause). PrintAnswer tb p room (refuses (at_fault x n))) (sym f.0)
-          (subst (λ (m : ℕ). PrintAnswer tb p room (refuses (at_fault breaksPair m))) (sym f.1) (print_refused _ (left_open l f.2 f.3)))
+          (subst (λ (m : ℕ). PrintAnswer tb p room (refuses (at_fault breaks_pair m))) (sym f.1) (print_refused _ (left_open l f.2 f.3)))
 
   -- a short text's answer is by its verdict
   pub short_answer : (p : Text) (room : ℕ) (v : Verdict) → length (normal_of p) ≤ longest_text → verdict_of tb (normal_of p) ≡ v
@@ -131,8 +131,8 @@ module _ (tb : Table) where
   unfolding answer
   allowed_answer p room a (print_refused x (refused_too_long l)) =
       choose_lt (length (normal_of p)) longest_text (by_verdict (verdict_of tb (normal_of p)) (whole_row tb (normal_of p)) room) _ l
-  allowed_answer p room a (print_refused x (no_sign n l f)) = short_answer p room _ l (first_verdict (normal_of p) n lacksSign f)
-  allowed_answer p room a (print_refused x (pair_broken n l f)) = short_answer p room _ l (first_verdict (normal_of p) n breaksPair f)
+  allowed_answer p room a (print_refused x (no_sign n l f)) = short_answer p room _ l (first_verdict (normal_of p) n lacks_sign f)
+  allowed_answer p room a (print_refused x (pair_broken n l f)) = short_answer p room _ l (first_verdict (normal_of p) n breaks_pair f)
   allowed_answer p room a (print_refused x (left_open l f o)) = short_answer p room _ l (open_verdict (normal_of p) f o)
   allowed_answer p room a (print_refused x (refused_outside_form n l f)) = short_answer p room _ l (first_verdict (normal_of p) n outside_form f)
   allowed_answer p room a (print_refused x (refused_shares_cells n l f)) = short_answer p room _ l (first_verdict (normal_of p) n shares_cells f)
@@ -153,8 +153,8 @@ module _ (tb : Table) where
 
   excused : (p : Text) (room : ℕ) (x : Refusal) → PrintRefused tb (normal_of p) room x → Excused p room
   excused p room x (refused_too_long l) = inl l
-  excused p room x (no_sign n l f) = inr (inl (λ h. ((row_exactly tb (normal_of p)).0 h).0 n lacksSign f.there))
-  excused p room x (pair_broken n l f) = inr (inl (λ h. ((row_exactly tb (normal_of p)).0 h).0 n breaksPair f.there))
+  excused p room x (no_sign n l f) = inr (inl (λ h. ((row_exactly tb (normal_of p)).0 h).0 n lacks_sign f.there))
+  excused p room x (pair_broken n l f) = inr (inl (λ h. ((row_exactly tb (normal_of p)).0 h).0 n breaks_pair f.there))
   excused p room x (left_open l f o) = inr (inl (λ h. ((row_exactly tb (normal_of p)).0 h).1 o))
   excused p room x (refused_outside_form n l f) = inr (inl (λ h. ((row_exactly tb (normal_of p)).0 h).0 n outside_form f.there))
   excused p room x (refused_shares_cells n l f) = inr (inl (λ h. ((row_exactly tb (normal_of p)).0 h).0 n shares_cells f.there))

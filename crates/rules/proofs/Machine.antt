@@ -8,12 +8,12 @@ use mathlib.Core.Option.{Option, none, some}
 use Prim.Native.Nat.{ℕ}
 use Prim.Native.Char.{code}
 use lib.Dec.{T, eqb, eqb→eq}
-use Rattle.rules.specs.Sorts.{Class, aToJ, otherSmall, capital, one, otherDigit, aStop, aComma, aHyphen, aDash, aBar, masculine, feminine, aPercent, otherSign, unlisted}
-use Rattle.rules.specs.Signs.{Way, bare, oneCapital, allCapitals, separated, firstDigit, firstLower, lower, denominator, ordinalMark, inside}
+use Rattle.rules.specs.Sorts.{Class, a_to_j, other_small, capital, one, other_digit, a_stop, a_comma, a_hyphen, a_dash, a_bar, masculine, feminine, a_percent, other_sign, unlisted}
+use Rattle.rules.specs.Signs.{Way, bare, one_capital, all_capitals, separated, first_digit, first_lower, lower, denominator, ordinal_mark, inside}
 use Rattle.rules.specs.Places.{Outcome, fault, silent, sign}
 use Rattle.rules.proofs.Finite.{and_both, implies, is_true_of_eqb, every, hold, holds, Hold, every3, at3, every4, at4}
 use Rattle.rules.proofs.Sides.{rule, look, after, ◌was◌, ◌sees◌, caps_next, mixed_next, digit_next, mark_next, form_next}
-use Rattle.rules.proofs.States.{Past, free, lone, caps, mixed, plain-on, past-on, under_one, under, past-bar, past_stop, past-point, past-dash, past-hyphen, past-feminine, past-percent, Future, rest, digits-on, form_on, bar-on, stop-on, mark_on, Mode, Free, Lone, Owing, Mixed, Whole1, Whole2, Num, Low, Under1, Under, Mid, End, Hyphen, Dash, Fem, Percent}
+use Rattle.rules.proofs.States.{Past, free, lone, caps, mixed, plain_on, past_on, under_one, under, past_bar, past_stop, past_point_lem, past-dash, past_hyphen, past_feminine, past_percent, Future, rest, digits_on, form_on, bar_on, stop_on, mark_on, Mode, Free, Lone, Owing, Mixed, Whole1, Whole2, Num, Low, Under1, Under, Mid, End, Hyphen, Dash, Fem, Percent}
 use Rattle.rules.proofs.Enumerations.{classes, ways, way_number, pasts, futures, modes, mode_number}
 
 infix 40 ◌by◌
@@ -67,14 +67,14 @@ to false m = none
 step_digit : Mode → Way → Mode → Option Mode
 unfolding starts_number mode_in same_mode
 step_digit m bare u = cond (mode_in m (Num ∷ Mid ∷ [])) (some Num) (to (mode_in m (Under1 ∷ Under ∷ [])) Under)
-step_digit m oneCapital u = none
-step_digit m allCapitals u = none
+step_digit m one_capital u = none
+step_digit m all_capitals u = none
 step_digit m separated u = none
-step_digit m firstDigit u = to (starts_number m) Num
-step_digit m firstLower u = to (starts_number m) Low
+step_digit m first_digit u = to (starts_number m) Num
+step_digit m first_lower u = to (starts_number m) Low
 step_digit m lower u = to (same_mode m Low) Low
 step_digit m denominator u = to (same_mode m Low) u
-step_digit m ordinalMark u = none
+step_digit m ordinal_mark u = none
 step_digit m inside u = none
 
 step_point : Mode → Way → Option Mode
@@ -86,29 +86,29 @@ step_capital : Mode → Way → Option Mode
 unfolding starts_run mode_in same_mode
 step_capital m w =
     cond (w by bare) (to (mode_in m (Whole1 ∷ Whole2 ∷ [])) Whole2)
-    (cond (w by allCapitals) (to (starts_run m) Whole1)
-    (cond (w by oneCapital)
+    (cond (w by all_capitals) (to (starts_run m) Whole1)
+    (cond (w by one_capital)
     (cond (same_mode m Mixed) (some Mixed) (cond (mode_in m (Lone ∷ Owing ∷ [])) (some Owing) (to (starts_run m) Lone)))
     none))
 
 -- the mode after a sign of this class, written in this way, if it may stand in this mode
 unfoldable pub step : Mode → Way → Class → Option Mode
 unfolding step_digit step_point step_capital at_rest starts_run goes_small starts_a_to_j mode_in same_mode
-step m w aToJ =
+step m w a_to_j =
     cond (w by separated) (to (mode_in m (Num ∷ Under ∷ [])) Mixed) (to (w by bare && (goes_small m || starts_a_to_j m)) Mixed)
-step m w otherSmall = to (w by bare && (goes_small m || starts_run m)) Mixed
+step m w other_small = to (w by bare && (goes_small m || starts_run m)) Mixed
 step m w capital = step_capital m w
 step m w one = step_digit m w Under1
-step m w otherDigit = step_digit m w Under
-step m w aStop = step_point m w
-step m w aComma = step_point m w
-step m w aHyphen = to (w by bare && at_rest m && not (mode_in m (Hyphen ∷ Dash ∷ []))) Hyphen
-step m w aDash = to (w by bare && at_rest m && not (same_mode m Hyphen)) Dash
-step m w aBar = none
-step m w masculine = to (w by ordinalMark && same_mode m Low) Free
-step m w feminine = to (w by ordinalMark && same_mode m Low) Fem
-step m w aPercent = to (w by bare && at_rest m) Percent
-step m w otherSign = to (w by bare && at_rest m) Free
+step m w other_digit = step_digit m w Under
+step m w a_stop = step_point m w
+step m w a_comma = step_point m w
+step m w a_hyphen = to (w by bare && at_rest m && not (mode_in m (Hyphen ∷ Dash ∷ []))) Hyphen
+step m w a_dash = to (w by bare && at_rest m && not (same_mode m Hyphen)) Dash
+step m w a_bar = none
+step m w masculine = to (w by ordinal_mark && same_mode m Low) Free
+step m w feminine = to (w by ordinal_mark && same_mode m Low) Fem
+step m w a_percent = to (w by bare && at_rest m) Percent
+step m w other_sign = to (w by bare && at_rest m) Free
 step m w unlisted = none
 
 -- where a place stands in the machine: after what is before it, with what comes after it in view
@@ -117,17 +117,17 @@ mode_at free f = Free
 mode_at lone f = cond (caps_next f) Whole1 Lone
 mode_at caps f = cond (mixed_next f) Owing Whole2
 mode_at mixed f = Mixed
-mode_at plain-on f = cond (form_next f) Low Num
-mode_at past-on f = Num
+mode_at plain_on f = cond (form_next f) Low Num
+mode_at past_on f = Num
 mode_at under_one f = Under1
 mode_at under f = Under
-mode_at past-bar f = Low
+mode_at past_bar f = Low
 mode_at past_stop f = cond (mark_next f) Low (cond (digit_next f) Mid End)
-mode_at past-point f = cond (digit_next f) Mid End
+mode_at past_point_lem f = cond (digit_next f) Mid End
 mode_at past-dash f = Dash
-mode_at past-hyphen f = Hyphen
-mode_at past-feminine f = Fem
-mode_at past-percent f = Percent
+mode_at past_hyphen f = Hyphen
+mode_at past_feminine f = Fem
+mode_at past_percent f = Percent
 
 -- the two code points that may have no cell
 abbrev pub the_bar : ℕ
@@ -139,26 +139,26 @@ the_stop = code "."
 -- A code point that has no cell and goes with the sign after it: it waits at a place; it goes with a sign of this way; a class may be one.
 -- 0 for none. (No other class is silent: `silent_lead`.)
 unfoldable pub waiting : Past → Future → ℕ
-waiting p f = cond (p was past-bar) the_bar (cond (p was past_stop && mark_next f) the_stop 0)
+waiting p f = cond (p was past_bar) the_bar (cond (p was past_stop && mark_next f) the_stop 0)
 
 unfoldable pub lead_of : Way → ℕ
-lead_of w = cond (w by denominator) the_bar (cond (w by ordinalMark) the_stop 0)
+lead_of w = cond (w by denominator) the_bar (cond (w by ordinal_mark) the_stop 0)
 
 unfoldable pub lead_class : Class → ℕ
-lead_class aToJ = 0
-lead_class otherSmall = 0
+lead_class a_to_j = 0
+lead_class other_small = 0
 lead_class capital = 0
 lead_class one = 0
-lead_class otherDigit = 0
-lead_class aStop = the_stop
-lead_class aComma = 0
-lead_class aHyphen = 0
-lead_class aDash = 0
-lead_class aBar = the_bar
+lead_class other_digit = 0
+lead_class a_stop = the_stop
+lead_class a_comma = 0
+lead_class a_hyphen = 0
+lead_class a_dash = 0
+lead_class a_bar = the_bar
 lead_class masculine = 0
 lead_class feminine = 0
-lead_class aPercent = 0
-lead_class otherSign = 0
+lead_class a_percent = 0
+lead_class other_sign = 0
 lead_class unlisted = 0
 
 unfoldable pub is_some : Option Mode → Mode → Bool
@@ -167,7 +167,7 @@ is_some (some m) n = same_mode m n
 
 -- after U+2044, and after a denominator that is 1 so far, comes a digit
 unfoldable pub ready : Past → Future → Bool
-ready p f = not (p was past-bar || p was under_one) || digit_next f
+ready p f = not (p was past_bar || p was under_one) || digit_next f
 
 -- TEST 1: where a place is not at fault, the machine goes on with it.
 unfoldable pub onward_by : Past → Class → Future → Outcome → List Bool
@@ -201,7 +201,7 @@ onward_at p c f r =
 
 -- TEST 2: what may come after a mode is all that comes.
 abbrev fresh : Future → Bool
-fresh f = not (f sees bar-on || f sees stop-on || f sees mark_on)
+fresh f = not (f sees bar_on || f sees stop_on || f sees mark_on)
 
 unfoldable pub ahead : Mode → Future → Bool
 ahead Free f = fresh f
@@ -212,9 +212,9 @@ ahead Whole1 f = caps_next f
 ahead Whole2 f = fresh f && not (mixed_next f)
 ahead Num f = fresh f && not (f sees form_on)
 ahead Low f = form_next f
-ahead Under1 f = f sees digits-on
+ahead Under1 f = f sees digits_on
 ahead Under f = fresh f && not (f sees form_on)
-ahead Mid f = f sees digits-on
+ahead Mid f = f sees digits_on
 ahead End f = fresh f && not (digit_next f)
 ahead Hyphen f = fresh f
 ahead Dash f = fresh f
@@ -223,7 +223,7 @@ ahead Percent f = fresh f
 
 -- what is in view before a sign, with the code point that goes with it
 unfoldable pub see : Way → Class → Future → Future
-see w c f = cond (w by denominator) (look aBar (look c f)) (cond (w by ordinalMark) (look aStop (look c f)) (look c f))
+see w c f = cond (w by denominator) (look a_bar (look c f)) (cond (w by ordinal_mark) (look a_stop (look c f)) (look c f))
 
 view_by : Mode → Way → Class → Future → Option Mode → Bool
 view_by m w c f none = true
@@ -270,14 +270,14 @@ lands_two p d w c f n = is_silent (rule p d (look c f)) ∷ lands (after p d) w 
 
 unfoldable pub back_by : Past → Way → Class → Future → Mode → List Bool
 back_by p bare c f n = lands p bare c f n
-back_by p oneCapital c f n = lands p oneCapital c f n
-back_by p allCapitals c f n = lands p allCapitals c f n
+back_by p one_capital c f n = lands p one_capital c f n
+back_by p all_capitals c f n = lands p all_capitals c f n
 back_by p separated c f n = lands p separated c f n
-back_by p firstDigit c f n = lands p firstDigit c f n
-back_by p firstLower c f n = lands p firstLower c f n
+back_by p first_digit c f n = lands p first_digit c f n
+back_by p first_lower c f n = lands p first_lower c f n
 back_by p lower c f n = lands p lower c f n
-back_by p denominator c f n = lands_two p aBar denominator c f n
-back_by p ordinalMark c f n = lands_two p aStop ordinalMark c f n
+back_by p denominator c f n = lands_two p a_bar denominator c f n
+back_by p ordinal_mark c f n = lands_two p a_stop ordinal_mark c f n
 back_by p inside c f n = lands p inside c f n
 
 back_if : Past → Way → Class → Future → Option Mode → Bool

@@ -10,10 +10,10 @@ use Prim.Native.Nat.{ℕ}
 use native.Mathlib.Omega.{arith}
 use lib.Dec.{T, eqb, eqb→eq}
 use Rattle.rules.specs.Cells.{Text, Row}
-use Rattle.rules.specs.Sorts.{Sort, letter, digit, full_stop, comma, hyphen, dash, fractionBar, ordinal, pair_mark, percent, plain, no_sign, Item, Class, aToJ, otherSmall, capital, one, otherDigit, aComma, aHyphen, aDash, masculine, feminine, aPercent, otherSign, unlisted, class, is_digit_cell}
-use Rattle.rules.specs.Signs.{Way, bare, oneCapital, allCapitals, separated, firstDigit, firstLower, lower, denominator, ordinalMark, inside, sign_cells, Sign}
+use Rattle.rules.specs.Sorts.{Sort, letter, digit, full_stop, comma, hyphen, dash, fraction_bar, ordinal, pair_mark, percent, plain, no_sign, Item, Class, a_to_j, other_small, capital, one, other_digit, a_comma, a_hyphen, a_dash, masculine, feminine, a_percent, other_sign, unlisted, class, is_digit_cell}
+use Rattle.rules.specs.Signs.{Way, bare, one_capital, all_capitals, separated, first_digit, first_lower, lower, denominator, ordinal_mark, inside, sign_cells, Sign}
 use Rattle.rules.specs.Pairs.{Opens, mark_of, turn, fits, closed}
-use Rattle.rules.specs.Places.{class_at, breaksPair, Outcome, fault, silent, sign}
+use Rattle.rules.specs.Places.{class_at, breaks_pair, Outcome, fault, silent, sign}
 use Rattle.rules.specs.Rows.{Verdict, good, bad, judge, sign_onward, signs_from}
 use Rattle.rules.proofs.Finite.{and_left, and_right, beq_same, Hold, every3, at3}
 use Rattle.rules.proofs.States.{Past, Future, Mode}
@@ -32,7 +32,7 @@ word s = sign_cells s.0 s.1.1
 
 -- what goes before the code point of a piece and has no cell
 abbrev pub due : Bool → ℕ → List Item
-due q n = cond (eqb n the_bar) ((the_bar, fractionBar) ∷ []) (cond (eqb n the_stop) ((the_stop, full_stop q) ∷ []) [])
+due q n = cond (eqb n the_bar) ((the_bar, fraction_bar) ∷ []) (cond (eqb n the_stop) ((the_stop, full_stop q) ∷ []) [])
 
 unfoldable pub lead : Bool → Way → List Item
 unfolding lead_of
@@ -81,7 +81,7 @@ pub good_of_verdict : (p : Past) (o : Opens) (n : ℕ) (a : List Item) → verdi
 unfolding verdict_on Good
 good_of_verdict p o n [] e = go (closed o) e
   where
-    go : (b : Bool) → cond b good (bad breaksPair n) ≡ good → T b
+    go : (b : Bool) → cond b good (bad breaks_pair n) ≡ good → T b
     go true e = tt
     go false e = bad_not_good e
 good_of_verdict p o n (i ∷ a) e =
@@ -92,7 +92,7 @@ pub verdict_of_good : (p : Past) (o : Opens) (n : ℕ) (a : List Item) → Good 
 unfolding verdict_on Good
 verdict_of_good p o n [] g = go (closed o) g
   where
-    go : (b : Bool) → T b → cond b good (bad breaksPair n) ≡ good
+    go : (b : Bool) → T b → cond b good (bad breaks_pair n) ≡ good
     go true t = refl
     go false t = absurd t
 verdict_of_good p o n (i ∷ a) g =
@@ -133,7 +133,7 @@ quiet p (full_stop b) f o e = refl
 quiet p comma f o e = refl
 quiet p hyphen f o e = refl
 quiet p dash f o e = refl
-quiet p fractionBar f o e = refl
+quiet p fraction_bar f o e = refl
 quiet p (ordinal b) f o e = refl
 quiet p (pair_mark k b w) f o e = let z : ◌≡◌ {A = ℕ} 0 1 = cc in absurd (omega arith)
 quiet p (percent w) f o e = refl
@@ -173,7 +173,7 @@ proper_code q c (full_stop b) = eqb c the_stop && beq b q
 proper_code q c comma = true
 proper_code q c hyphen = true
 proper_code q c dash = true
-proper_code q c fractionBar = eqb c the_bar
+proper_code q c fraction_bar = eqb c the_bar
 proper_code q c (ordinal b) = true
 proper_code q c (pair_mark k b w) = true
 proper_code q c (percent w) = true
@@ -194,12 +194,12 @@ silent_lead p c f e z =
     subst T (ap (λ (x : Outcome). not (is_silent x) || not (eqb (lead_class c) 0)) e ∙ ap (λ (n : ℕ). not (eqb n 0)) z)
     (at3 pasts classes futures silent_class silent_class_all p c f)
 
-lead_letter : (b : Bool) → lead_class (cond b aToJ otherSmall) ≡ 0
+lead_letter : (b : Bool) → lead_class (cond b a_to_j other_small) ≡ 0
 unfolding lead_class
 lead_letter true = refl
 lead_letter false = refl
 
-lead_digit : (b : Bool) → lead_class (cond b one otherDigit) ≡ 0
+lead_digit : (b : Bool) → lead_class (cond b one other_digit) ≡ 0
 unfolding lead_class
 lead_digit true = refl
 lead_digit false = refl
@@ -214,15 +214,15 @@ silent_item q p f c (digit d) e t = absurd (silent_lead p _ f e (lead_digit (eqb
 silent_item q p f c (full_stop b) e t =
     ap (λ (k : ℕ). (k, full_stop b) ∷ []) (eqb→eq c the_stop (and_left (eqb c the_stop) (beq b q) t))
     ∙ ap (λ (x : Bool). (the_stop, full_stop x) ∷ []) (beq_same b q (and_right (eqb c the_stop) (beq b q) t))
-silent_item q p f c comma e t = absurd (silent_lead p aComma f e refl)
-silent_item q p f c hyphen e t = absurd (silent_lead p aHyphen f e refl)
-silent_item q p f c dash e t = absurd (silent_lead p aDash f e refl)
-silent_item q p f c fractionBar e t = ap (λ (k : ℕ). (k, fractionBar) ∷ []) (eqb→eq c the_bar t)
+silent_item q p f c comma e t = absurd (silent_lead p a_comma f e refl)
+silent_item q p f c hyphen e t = absurd (silent_lead p a_hyphen f e refl)
+silent_item q p f c dash e t = absurd (silent_lead p a_dash f e refl)
+silent_item q p f c fraction_bar e t = ap (λ (k : ℕ). (k, fraction_bar) ∷ []) (eqb→eq c the_bar t)
 silent_item q p f c (ordinal true) e t = absurd (silent_lead p feminine f e refl)
 silent_item q p f c (ordinal false) e t = absurd (silent_lead p masculine f e refl)
-silent_item q p f c (pair_mark k b w) e t = absurd (silent_lead p otherSign f e refl)
-silent_item q p f c (percent w) e t = absurd (silent_lead p aPercent f e refl)
-silent_item q p f c (plain w) e t = absurd (silent_lead p otherSign f e refl)
+silent_item q p f c (pair_mark k b w) e t = absurd (silent_lead p other_sign f e refl)
+silent_item q p f c (percent w) e t = absurd (silent_lead p a_percent f e refl)
+silent_item q p f c (plain w) e t = absurd (silent_lead p other_sign f e refl)
 silent_item q p f c no_sign e t = absurd (silent_lead p unlisted f e refl)
 
 -- the pieces' items are the text's, after what waits
@@ -259,14 +259,14 @@ printed_from q p o (i ∷ a) g k r =
 future_see : (q : Bool) (w : Way) (i : Item) (a : List Item) → future (lead q w ++ i ∷ a) ≡ see w (class_at i) (future a)
 unfolding future lead see class
 future_see q bare i a = refl
-future_see q oneCapital i a = refl
-future_see q allCapitals i a = refl
+future_see q one_capital i a = refl
+future_see q all_capitals i a = refl
 future_see q separated i a = refl
-future_see q firstDigit i a = refl
-future_see q firstLower i a = refl
+future_see q first_digit i a = refl
+future_see q first_lower i a = refl
 future_see q lower i a = refl
 future_see q denominator i a = refl
-future_see q ordinalMark i a = refl
+future_see q ordinal_mark i a = refl
 future_see q inside i a = refl
 
 pub views : (q : Bool) (m : Mode) (o : Opens) (ss : List Piece) → Runs m o ss → T (ahead m (future (items q ss)))
@@ -321,14 +321,14 @@ place : (q : Bool) (p : Past) (o : Opens) (w : Way) (i : Item) (a : List Item) (
     → Hold (back_by p w (class_at i) (future a) n) → Rest n (turn i.1 o) a ss → Back p o (lead q w ++ i ∷ a) ((w, i) ∷ ss)
 unfolding back_by lead fits turn mark_of class
 place q p o bare i a ss n k h r = place_one p o bare i a ss n k h r
-place q p o oneCapital i a ss n k h r = place_one p o oneCapital i a ss n k h r
-place q p o allCapitals i a ss n k h r = place_one p o allCapitals i a ss n k h r
+place q p o one_capital i a ss n k h r = place_one p o one_capital i a ss n k h r
+place q p o all_capitals i a ss n k h r = place_one p o all_capitals i a ss n k h r
 place q p o separated i a ss n k h r = place_one p o separated i a ss n k h r
-place q p o firstDigit i a ss n k h r = place_one p o firstDigit i a ss n k h r
-place q p o firstLower i a ss n k h r = place_one p o firstLower i a ss n k h r
+place q p o first_digit i a ss n k h r = place_one p o first_digit i a ss n k h r
+place q p o first_lower i a ss n k h r = place_one p o first_lower i a ss n k h r
 place q p o lower i a ss n k h r = place_one p o lower i a ss n k h r
-place q p o denominator i a ss n k h r = place_two p o denominator (the_bar, fractionBar) i a ss n tt refl k h r
-place q p o ordinalMark i a ss n k h r = place_two p o ordinalMark (the_stop, full_stop q) i a ss n tt refl k h r
+place q p o denominator i a ss n k h r = place_two p o denominator (the_bar, fraction_bar) i a ss n tt refl k h r
+place q p o ordinal_mark i a ss n k h r = place_two p o ordinal_mark (the_stop, full_stop q) i a ss n tt refl k h r
 place q p o inside i a ss n k h r = place_one p o inside i a ss n k h r
 
 pub texts : (q : Bool) (m : Mode) (o : Opens) (ss : List Piece) → Runs m o ss → Rest m o (items q ss) ss
@@ -371,7 +371,7 @@ wait_silent q p f c s e t = go (lead_class (class s)) (silent_item q p f c s e t
     go n h = code_of n (eqb n the_bar) refl (eqb n the_stop) refl (ap (map (λ (i : Item). i.0)) h)
       where
         code_of : (n : ℕ) (x : Bool) → eqb n the_bar ≡ x → (y : Bool) → eqb n the_stop ≡ y
-            → ◌≡◌ {A = List ℕ} (c ∷ []) (map (λ (i : Item). i.0) (cond x ((the_bar, fractionBar) ∷ []) (cond y ((the_stop, full_stop q) ∷ []) [])))
+            → ◌≡◌ {A = List ℕ} (c ∷ []) (map (λ (i : Item). i.0) (cond x ((the_bar, fraction_bar) ∷ []) (cond y ((the_stop, full_stop q) ∷ []) [])))
             → wait_text n ≡ c ∷ []
         code_of n true ex y ey h = ap wait_text (eqb→eq n the_bar (subst T (sym ex) tt)) ∙ sym h
         code_of n false ex true ey h = ap wait_text (eqb→eq n the_stop (subst T (sym ey) tt)) ∙ sym h

@@ -6,16 +6,16 @@ use mathlib.Core.Bool.{Bool, true, false, ◌&&◌, ◌||◌, not, cond, beq, tr
 use mathlib.Core.Option.{Option, none, some}
 use mathlib.Core.List.{List, [], ◌∷◌}
 use lib.Dec.{T, eqb}
-use Rattle.rules.specs.Sorts.{Sort, letter, digit, full_stop, comma, hyphen, dash, fractionBar, ordinal, pair_mark, percent, plain, no_sign, Item, class, Class, aToJ, otherSmall, capital, one, otherDigit, aStop, aComma, aHyphen, aDash, aBar, masculine, feminine, aPercent, otherSign, unlisted, ◌is◌, is_letter, is_digit, is_stop, is_point, is_ordinal}
+use Rattle.rules.specs.Sorts.{Sort, letter, digit, full_stop, comma, hyphen, dash, fraction_bar, ordinal, pair_mark, percent, plain, no_sign, Item, class, Class, a_to_j, other_small, capital, one, other_digit, a_stop, a_comma, a_hyphen, a_dash, a_bar, masculine, feminine, a_percent, other_sign, unlisted, ◌is◌, is_letter, is_digit, is_stop, is_point, is_ordinal}
 use Rattle.rules.specs.Near.{Side, next, Near}
 use Rattle.rules.specs.Capitals.{run_goes_on, only_capitals}
 use Rattle.rules.specs.Numbers.{under_bar, number_point, number_goes_on, point_way}
 use Rattle.rules.specs.Forms.{ordinal_stop, form_goes_on, stop_of_ordinal}
 use Rattle.rules.specs.Pairs.{Opens, mark_of, mark_fits, fits, open_after}
-use Rattle.rules.specs.Places.{Place, Faulty, without_sign, against_pair_rule, out_of_form, sharing_cells, class_at, side_of, near, near_of, class_of, Cause, written, lacksSign, breaksPair, outside_form, shares_cells, has_no_sign, is_outside_form, would_share_cells, Outcome, fault, silent, sign, outcome}
+use Rattle.rules.specs.Places.{Place, Faulty, without_sign, against_pair_rule, out_of_form, sharing_cells, class_at, side_of, near, near_of, class_of, Cause, written, lacks_sign, breaks_pair, outside_form, shares_cells, has_no_sign, is_outside_form, would_share_cells, Outcome, fault, silent, sign, outcome}
 use Rattle.rules.specs.Rows.{at, outcome_at, fits_at}
 use Rattle.rules.proofs.Finite.{false_of, nothing, every2, at2, every3, at3, beq_same, Hold, hold, holds}
-use Rattle.rules.proofs.States.{Past, free, past-on, past-bar, past_stop, past-dash, past-hyphen, past-feminine, Future, rest}
+use Rattle.rules.proofs.States.{Past, free, past_on, past_bar, past_stop, past-dash, past_hyphen, past_feminine, Future, rest}
 use Rattle.rules.proofs.Sides.{◌was◌, in_run, in_mixed, is_in_denominator, in_digits, at_point, caps_next, mixed_next, digit_next, mark_next, form_next, rule, look, after, future}
 use Rattle.rules.proofs.Enumerations.{classes, pasts, futures, way_same, cause_number, cause_same}
 use Rattle.rules.proofs.Machine.{◌by◌}
@@ -34,14 +34,14 @@ unfoldable pub view : Past → Future → Near
 view p f =
     record {
       after_digit = in_digits p;
-      after_bar = p was past-bar;
-      after_feminine = p was past-feminine;
-      after_hyphen = p was past-hyphen;
+      after_bar = p was past_bar;
+      after_feminine = p was past_feminine;
+      after_hyphen = p was past_hyphen;
       after_dash = p was past-dash;
       after_point = at_point p;
       after_ordinal_stop = p was past_stop;
-      in_denominator = is_in_denominator p || p was past-bar;
-      past_point = p was past-on || at_point p;
+      in_denominator = is_in_denominator p || p was past_bar;
+      past_point = p was past_on || at_point p;
       run_before = in_run p;
       capitals_before = not (in_mixed p);
       before_digit = digit_next f;
@@ -88,8 +88,8 @@ digit_is = next_is is_digit (λ p. (view p rest).after_digit) tt refl
 under_is : (b : Side) → under_bar b ≡ (view (past b) rest).in_denominator
 unfolding after view under_bar
 under_is =
-    grows under_bar (λ p. (view p rest).in_denominator) (λ c p. cond (is_digit c) (view p rest).in_denominator (c is aBar)) tt refl
-    (λ c b e. ap (λ (x : Bool). cond (is_digit c) x (c is aBar)) e)
+    grows under_bar (λ p. (view p rest).in_denominator) (λ c p. cond (is_digit c) (view p rest).in_denominator (c is a_bar)) tt refl
+    (λ c b e. ap (λ (x : Bool). cond (is_digit c) x (c is a_bar)) e)
 
 point_is : (b : Side) → number_point b ≡ (view (past b) rest).after_point
 unfolding after view number_point
@@ -134,7 +134,7 @@ ordinal_on = next_on is_ordinal mark_next tt refl
 form_on : (a : Side) → form_goes_on a ≡ form_next (ahead_of a)
 unfolding look form_goes_on
 form_on =
-    grows_on form_goes_on form_next (λ c f. cond (is_digit c) (form_next f) (c is aBar && digit_next f || is_stop c && mark_next f)) tt refl
+    grows_on form_goes_on form_next (λ c f. cond (is_digit c) (form_next f) (c is a_bar && digit_next f || is_stop c && mark_next f)) tt refl
     (λ c b e. cc (e, digit_on b, ordinal_on b))
 
 run_on : (a : Side) → run_goes_on a ≡ (caps_next (ahead_of a) || mixed_next (ahead_of a))
@@ -151,10 +151,10 @@ unfolding near view after look
 near_is b a i =
     record {
       after_digit = digit_is b i;
-      after_bar = next_is (λ c. c is aBar) (λ p. p was past-bar) tt refl b i;
-      after_feminine = next_is (λ c. c is feminine) (λ p. p was past-feminine) tt refl b i;
-      after_hyphen = next_is (λ c. c is aHyphen) (λ p. p was past-hyphen) tt refl b i;
-      after_dash = next_is (λ c. c is aDash) (λ p. p was past-dash) tt refl b i;
+      after_bar = next_is (λ c. c is a_bar) (λ p. p was past_bar) tt refl b i;
+      after_feminine = next_is (λ c. c is feminine) (λ p. p was past_feminine) tt refl b i;
+      after_hyphen = next_is (λ c. c is a_hyphen) (λ p. p was past_hyphen) tt refl b i;
+      after_dash = next_is (λ c. c is a_dash) (λ p. p was past-dash) tt refl b i;
       after_point = point_is b i;
       after_ordinal_stop = stop_is b i;
       in_denominator = under_is b i;
@@ -225,9 +225,9 @@ alone x a b c = not x || (not a && not b && not c)
 
 abbrev faults_of : Near → Class → List Bool
 faults_of n c =
-    alone (has_no_sign c) (c is otherSign) (is_outside_form n c) (would_share_cells n c)
-    ∷ alone (is_outside_form n c) (c is otherSign) (has_no_sign c) (would_share_cells n c)
-    ∷ alone (would_share_cells n c) (c is otherSign) (has_no_sign c) (is_outside_form n c)
+    alone (has_no_sign c) (c is other_sign) (is_outside_form n c) (would_share_cells n c)
+    ∷ alone (is_outside_form n c) (c is other_sign) (has_no_sign c) (would_share_cells n c)
+    ∷ alone (would_share_cells n c) (c is other_sign) (has_no_sign c) (is_outside_form n c)
     ∷ []
 
 one_fault_all : T (every3 pasts classes futures (λ p c f. holds (faults_of (view p f) c)))
@@ -249,7 +249,7 @@ alone_at true true b c t u = absurd t
 alone_at false a b c t u = absurd u
 
 -- what is not another sign is no pair mark
-pub unmarked : (s : Sort) → class s is otherSign ≡ false → mark_of s ≡ none
+pub unmarked : (s : Sort) → class s is other_sign ≡ false → mark_of s ≡ none
 unfolding class mark_of
 unmarked (letter c b) e = refl
 unmarked (digit d) e = refl
@@ -257,20 +257,20 @@ unmarked (full_stop b) e = refl
 unmarked comma e = refl
 unmarked hyphen e = refl
 unmarked dash e = refl
-unmarked fractionBar e = refl
+unmarked fraction_bar e = refl
 unmarked (ordinal b) e = refl
 unmarked (pair_mark k b w) e = absurd (true≢false e)
 unmarked (percent w) e = refl
 unmarked (plain w) e = refl
 unmarked no_sign e = refl
 
-fits_unmarked : (o : Opens) (s : Sort) → class s is otherSign ≡ false → fits o s ≡ true
+fits_unmarked : (o : Opens) (s : Sort) → class s is other_sign ≡ false → fits o s ≡ true
 unfolding fits
 fits_unmarked o s e = ap (mark_fits o) (unmarked s e)
 
 -- the fault that is found at a place
 abbrev pub found : Bool → Outcome → Option Cause
-found false x = some breaksPair
+found false x = some breaks_pair
 found true (fault c) = some c
 found true silent = none
 found true (sign w) = none
@@ -291,24 +291,24 @@ faulty_found p c (sharing_cells t) =
 -- and back: what is found is a fault
 written_sound : (n : Near) (c : Class) → found true (written n c) ≡ none
 unfolding written
-written_sound n aToJ = refl
-written_sound n otherSmall = refl
+written_sound n a_to_j = refl
+written_sound n other_small = refl
 written_sound n capital = refl
 written_sound n one = refl
-written_sound n otherDigit = refl
-written_sound n aStop = go (stop_of_ordinal n)
+written_sound n other_digit = refl
+written_sound n a_stop = go (stop_of_ordinal n)
   where
     go : (b : Bool) → found true (cond b silent (sign (point_way n))) ≡ none
     go true = refl
     go false = refl
-written_sound n aComma = refl
-written_sound n aHyphen = refl
-written_sound n aDash = refl
-written_sound n aBar = refl
+written_sound n a_comma = refl
+written_sound n a_hyphen = refl
+written_sound n a_dash = refl
+written_sound n a_bar = refl
 written_sound n masculine = refl
 written_sound n feminine = refl
-written_sound n aPercent = refl
-written_sound n otherSign = refl
+written_sound n a_percent = refl
+written_sound n other_sign = refl
 written_sound n unlisted = refl
 
 pub found_faulty : (p : Place) (c : Cause) → found (fits_at p) (outcome_at p) ≡ some c → Faulty p c
@@ -324,7 +324,7 @@ found_faulty p c =
 
     go : (a : Bool) → fits_at p ≡ a → (x : Bool) → has_no_sign (class_of p) ≡ x → (y : Bool) → is_outside_form (near_of p) (class_of p) ≡ y
         → (z : Bool) → would_share_cells (near_of p) (class_of p) ≡ z
-        → found a (cond x (fault lacksSign) (cond y (fault outside_form) (cond z (fault shares_cells) (written (near_of p) (class_of p))))) ≡ some c
+        → found a (cond x (fault lacks_sign) (cond y (fault outside_form) (cond z (fault shares_cells) (written (near_of p) (class_of p))))) ≡ some c
         → Faulty p c
     go false ea x ex y ey z ez e = this (against_pair_rule (subst (λ (b : Bool). T (not b)) (sym ea) tt)) e
     go true ea true ex y ey z ez e = this (without_sign (holds_at ex)) e

@@ -10,7 +10,7 @@ use Prim.Native.Nat.{ℕ, zero-le}
 use lib.Dec.{T, eqb, eqb→eq, eqb_refl, leb}
 use lib.ListN.{length}
 use Rattle.rules.specs.Cells.{Text, Row, last_cell}
-use Rattle.rules.specs.Sorts.{Sort, no_sign, full_stop, fractionBar, Item, Table, Class, class}
+use Rattle.rules.specs.Sorts.{Sort, no_sign, full_stop, fraction_bar, Item, Table, Class, class}
 use Rattle.rules.specs.Signs.{Way}
 use Rattle.rules.specs.Pairs.{Opens, turn, open_after}
 use Rattle.rules.specs.Places.{class_at, Outcome, fault, silent, sign}
@@ -141,7 +141,7 @@ pub record Sane (tb : Table) : Type 0 where
   pub shares : Bool
   pub codes : T (every (λ (i : Item). proper_code shares i.0 i.1) tb)
   pub has_stop : sort_in tb the_stop ≡ full_stop shares
-  pub has_bar : sort_in tb the_bar ≡ fractionBar
+  pub has_bar : sort_in tb the_bar ≡ fraction_bar
   -- what normalising replaces, digits and ordinals
   pub normal : T (normal_codes tb)
   -- every mark is of a kind that is counted
@@ -258,10 +258,10 @@ module _ (tb : Table) (sane : Sane tb) where
   same_due n i a e ih = go (eqb n the_bar) (eqb n the_stop)
     where
       waits : Bool → Bool → List Item
-      waits b c = cond b ((the_bar, fractionBar) ∷ []) (cond c ((the_stop, full_stop sane.shares) ∷ []) [])
+      waits b c = cond b ((the_bar, fraction_bar) ∷ []) (cond c ((the_stop, full_stop sane.shares) ∷ []) [])
 
       go : (b c : Bool) → recoded (waits b c ++ i ∷ a) ≡ waits b c ++ i ∷ a
-      go true c = same_cons (the_bar, fractionBar) (i ∷ a) (ap (λ (x : Sort). (the_bar, x)) sane.has_bar) (same_cons i a e ih)
+      go true c = same_cons (the_bar, fraction_bar) (i ∷ a) (ap (λ (x : Sort). (the_bar, x)) sane.has_bar) (same_cons i a e ih)
       go false true = same_cons (the_stop, full_stop sane.shares) (i ∷ a) (ap (λ (x : Sort). (the_stop, x)) sane.has_stop) (same_cons i a e ih)
       go false false = same_cons i a e ih
 

@@ -14,12 +14,12 @@ use lib.Dec.{T, T_not, eqb, eqb→eq, eqb_refl}
 use lib.ListN.{length, drop, length-append}
 use lib.Seq.{drop-append_seam, drop-nil}
 use Rattle.rules.specs.Cells.{Row, dots}
-use Rattle.rules.specs.Sorts.{Item, Class, aToJ, otherSmall, capital, one, otherDigit, aStop, aComma, aHyphen, aDash, aBar, masculine, feminine, aPercent, otherSign, unlisted, is_digit_cell}
-use Rattle.rules.specs.Signs.{Way, bare, oneCapital, allCapitals, separated, firstDigit, firstLower, lower, denominator, ordinalMark, inside}
+use Rattle.rules.specs.Sorts.{Item, Class, a_to_j, other_small, capital, one, other_digit, a_stop, a_comma, a_hyphen, a_dash, a_bar, masculine, feminine, a_percent, other_sign, unlisted, is_digit_cell}
+use Rattle.rules.specs.Signs.{Way, bare, one_capital, all_capitals, separated, first_digit, first_lower, lower, denominator, ordinal_mark, inside}
 use Rattle.rules.specs.Pairs.{Opens, may_stand, mark_of, mark_fits, turn, fits, closed}
 use Rattle.rules.specs.Places.{class_at}
 use Rattle.rules.proofs.Finite.{nothing, every, and_left, and_right, and_both, implies}
-use Rattle.rules.proofs.States.{Mode, Free, Lone, Owing, Mixed, Whole1, Whole2, Num, Low, Under1, Under, Mid, End, Hyphen, Dash, Fem, Percent, Kind, a-digit, a-hyphen, a-lower-zero}
+use Rattle.rules.proofs.States.{Mode, Free, Lone, Owing, Mixed, Whole1, Whole2, Num, Low, Under1, Under, Mid, End, Hyphen, Dash, Fem, Percent, Kind, a_digit, a_hyphen, a_lower_zero}
 use Rattle.rules.proofs.Enumerations.{modes, kind_number, kind_same}
 use Rattle.rules.proofs.Machine.{step, at_rest}
 use Rattle.rules.proofs.Pieces.{Piece, word, words, Runs}
@@ -35,21 +35,21 @@ beyond = 64
 
 -- (No kind asks for the second cell today. One that does says in `unsure` at which first cells.)
 unfoldable pub begins_as : Kind → ℕ → ℕ → Bool
-begins_as a-digit x y = is_digit_cell x
-begins_as a-hyphen x y = eqb x (dots 36)
-begins_as a-lower-zero x y = eqb x (dots 356)
+begins_as a_digit x y = is_digit_cell x
+begins_as a_hyphen x y = eqb x (dots 36)
+begins_as a_lower_zero x y = eqb x (dots 356)
 
 -- the first cell alone does not tell
 abbrev pub unsure : Kind → ℕ → Bool
-unsure a-digit x = false
-unsure a-hyphen x = false
-unsure a-lower-zero x = false
+unsure a_digit x = false
+unsure a_hyphen x = false
+unsure a_lower_zero x = false
 
 sure_kind : (k : Kind) (x y : ℕ) → unsure k x ≡ false → begins_as k x y ≡ begins_as k x beyond
 unfolding begins_as
-sure_kind a-digit x y e = refl
-sure_kind a-hyphen x y e = refl
-sure_kind a-lower-zero x y e = refl
+sure_kind a_digit x y e = refl
+sure_kind a_hyphen x y e = refl
+sure_kind a_lower_zero x y e = refl
 
 -- no clause from here to `look_of` names a kind
 abbrev pub sees_two : Look → ℕ → ℕ → Bool
@@ -121,14 +121,14 @@ look_of Whole1 = any
 look_of Whole2 = any
 look_of Num = any
 look_of Low = any
-look_of Under1 = wants a-digit
+look_of Under1 = wants a_digit
 look_of Under = any
-look_of Mid = wants a-digit
-look_of End = shuns a-digit
-look_of Hyphen = shuns a-hyphen
+look_of Mid = wants a_digit
+look_of End = shuns a_digit
+look_of Hyphen = shuns a_hyphen
 look_of Dash = any
-look_of Fem = shuns a-digit
-look_of Percent = shuns a-lower-zero
+look_of Fem = shuns a_digit
+look_of Percent = shuns a_lower_zero
 
 -- THE READER
 unfoldable pub match : Row → Row → Look → Bool
@@ -165,20 +165,20 @@ walk tb m o zero (x ∷ r) =
 
 -- the pieces of a table: each code point in each way that its class is written
 unfoldable pub ways_of : Class → List Way
-ways_of aToJ = bare ∷ separated ∷ []
-ways_of otherSmall = bare ∷ []
-ways_of capital = bare ∷ oneCapital ∷ allCapitals ∷ []
-ways_of one = bare ∷ firstDigit ∷ firstLower ∷ lower ∷ denominator ∷ []
-ways_of otherDigit = bare ∷ firstDigit ∷ firstLower ∷ lower ∷ denominator ∷ []
-ways_of aStop = bare ∷ inside ∷ []
-ways_of aComma = bare ∷ inside ∷ []
-ways_of aHyphen = bare ∷ []
-ways_of aDash = bare ∷ []
-ways_of aBar = []
-ways_of masculine = ordinalMark ∷ []
-ways_of feminine = ordinalMark ∷ []
-ways_of aPercent = bare ∷ []
-ways_of otherSign = bare ∷ []
+ways_of a_to_j = bare ∷ separated ∷ []
+ways_of other_small = bare ∷ []
+ways_of capital = bare ∷ one_capital ∷ all_capitals ∷ []
+ways_of one = bare ∷ first_digit ∷ first_lower ∷ lower ∷ denominator ∷ []
+ways_of other_digit = bare ∷ first_digit ∷ first_lower ∷ lower ∷ denominator ∷ []
+ways_of a_stop = bare ∷ inside ∷ []
+ways_of a_comma = bare ∷ inside ∷ []
+ways_of a_hyphen = bare ∷ []
+ways_of a_dash = bare ∷ []
+ways_of a_bar = []
+ways_of masculine = ordinal_mark ∷ []
+ways_of feminine = ordinal_mark ∷ []
+ways_of a_percent = bare ∷ []
+ways_of other_sign = bare ∷ []
 ways_of unlisted = []
 
 unfoldable pub all_pieces : List Item → List Piece

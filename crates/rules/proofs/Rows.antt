@@ -14,7 +14,7 @@ use lib.ListN.{length, length-map}
 use Rattle.rules.specs.Cells.{Text, Row}
 use Rattle.rules.specs.Sorts.{Sort, Item, Table}
 use Rattle.rules.specs.Pairs.{open_after, closed}
-use Rattle.rules.specs.Places.{Place, place_from, Cause, breaksPair, Outcome, fault, silent, sign}
+use Rattle.rules.specs.Places.{Place, place_from, Cause, breaks_pair, Outcome, fault, silent, sign}
 use Rattle.rules.specs.Rows.{item_in, items_in, at, outcome_at, fits_at, row_onward, row_from, row_of, Reads, Accepted, FaultyPlace, FirstFault, Faultless, LeftOpen, Verdict, good, bad, judge, verdict_from, verdict_of}
 use Rattle.rules.specs.Demands.{OneFaultEach, VerdictMeans, VerdictIsLeast, RowExactly}
 use Rattle.rules.proofs.Finite.{nothing}
@@ -48,7 +48,7 @@ row_is : (b : List Item) (n : ℕ) (a : List Item) → row_from b a ≡ row_when
 unfolding row_from verdict_from row_on past
 row_is b n [] = go (closed (open_after b))
   where
-    go : (x : Bool) → cond x (some []) none ≡ row_when (cond x good (bad breaksPair n)) []
+    go : (x : Bool) → cond x (some []) none ≡ row_when (cond x good (bad breaks_pair n)) []
     go true = refl
     go false = refl
 row_is b n (i ∷ a) =
@@ -86,7 +86,7 @@ Says b n a good = SoundFrom b a × T (closed (open_after (reverse_aux a b)))
 Says b n a (bad c m) =
     (k : ℕ) × (m ≡ n + k)
     × ((FaultyPlace (place_from b a k) c × ((j : ℕ) → j < k → (d : Cause) → FaultyPlace (place_from b a j) d → ⊥))
-    ⊎ ((c ≡ breaksPair) × (k ≡ length a) × SoundFrom b a × T (not (closed (open_after (reverse_aux a b))))))
+    ⊎ ((c ≡ breaks_pair) × (k ≡ length a) × SoundFrom b a × T (not (closed (open_after (reverse_aux a b))))))
 
 -- a place where nothing is found leaves it to the rest
 sound_cons : (b : List Item) (i : Item) (a : List Item) → found (fits_at (at b i a)) (outcome_at (at b i a)) ≡ none → SoundFrom (i ∷ b) a
@@ -119,7 +119,7 @@ verdict_says : (b : List Item) (n : ℕ) (a : List Item) → Says b n a (verdict
 unfolding verdict_from place_from
 verdict_says b n [] = go (closed (open_after b)) refl
   where
-    go : (x : Bool) → closed (open_after b) ≡ x → Says b n [] (cond x good (bad breaksPair n))
+    go : (x : Bool) → closed (open_after b) ≡ x → Says b n [] (cond x good (bad breaks_pair n))
     go true e = (λ k c f. f, subst T (sym e) tt)
     go false e = (0, omega arith, inr (refl, refl, λ k c f. f, subst (λ (y : Bool). T (not y)) (sym e) tt))
 verdict_says b n (i ∷ a) =
@@ -129,7 +129,7 @@ verdict_says b n (i ∷ a) =
         → (found (fits_at (at b i a)) (outcome_at (at b i a)) ≡ none → (u : Verdict) → Says (i ∷ b) (suc n) a u → Says b n (i ∷ a) u)
         → ((c : Cause) → found (fits_at (at b i a)) (outcome_at (at b i a)) ≡ some c → Says b n (i ∷ a) (bad c n))
         → Says (i ∷ b) (suc n) a (verdict_from (i ∷ b) (suc n) a) → Says b n (i ∷ a) (judge x y n (verdict_from (i ∷ b) (suc n) a))
-    go false y ex ey onward first ih = first breaksPair (ap (λ (x : Bool). found x (outcome_at (at b i a))) ex)
+    go false y ex ey onward first ih = first breaks_pair (ap (λ (x : Bool). found x (outcome_at (at b i a))) ex)
     go true (fault c) ex ey onward first ih = first c (cc (ex, ey))
     go true silent ex ey onward first ih = onward (cc (ex, ey)) (verdict_from (i ∷ b) (suc n) a) ih
     go true (sign w) ex ey onward first ih = onward (cc (ex, ey)) (verdict_from (i ∷ b) (suc n) a) ih

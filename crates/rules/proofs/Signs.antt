@@ -12,7 +12,7 @@ use lib.Seq.{append_snoc}
 use lib.ListN.{length, length-append, length-map, get_or}
 use Rattle.rules.specs.Cells.{Text, Row, last_cell}
 use Rattle.rules.specs.Sorts.{Item, Table}
-use Rattle.rules.specs.Signs.{Way, denominator, ordinalMark, Sign, print_of, cells_of}
+use Rattle.rules.specs.Signs.{Way, denominator, ordinal_mark, Sign, print_of, cells_of}
 use Rattle.rules.specs.Rows.{Reads, signs_of}
 use Rattle.rules.specs.Demands.{ThreeCellsEach, CellForEachSign, OneOrTwoPoints, SignsJoin}
 use Rattle.rules.proofs.Finite.{every, and_left, and_right, and_both}
@@ -27,7 +27,7 @@ code_points a = map (λ (i : Item). i.0) a
 
 lead_print : (q : Bool) (w : Way) → code_points (lead q w) ≡ wait_text (lead_of w)
 unfolding lead lead_of
-lead_print q w = go (w by denominator) (w by ordinalMark)
+lead_print q w = go (w by denominator) (w by ordinal_mark)
   where
     go : (x y : Bool) → code_points (due q (cond x the_bar (cond y the_stop 0))) ≡ wait_text (cond x the_bar (cond y the_stop 0))
     go true y = refl
@@ -51,7 +51,7 @@ cells_signs (s ∷ ss) = ap (λ (r : Row). word s ++ r) (cells_signs ss)
 points_signs : (ss : List Piece) → OneOrTwoPoints (map sign_of ss)
 unfolding lead_of
 points_signs [] = tt
-points_signs (s ∷ ss) = (go (s.0 by denominator) (s.0 by ordinalMark), points_signs ss)
+points_signs (s ∷ ss) = (go (s.0 by denominator) (s.0 by ordinal_mark), points_signs ss)
   where
     go : (x y : Bool) → (length (wait_text (cond x the_bar (cond y the_stop 0)) ++ s.1.0 ∷ []) ≡ 1)
         ⊎ (length (wait_text (cond x the_bar (cond y the_stop 0)) ++ s.1.0 ∷ []) ≡ 2)

@@ -9,14 +9,14 @@ pub data Past : Type 0 where
   -- a run: one capital; two or more, all capitals; with a small letter
   lone caps mixed : Past
   -- digits: plain; past a point or comma; a denominator that is 1 so far; any other denominator
-  plain-on past-on under_one under : Past
+  plain_on past_on under_one under : Past
   -- directly before: U+2044; a full stop after plain digits; another point or comma of a number; U+2014; a hyphen; ª; %
-  past-bar past_stop past-point past-dash past-hyphen past-feminine past-percent : Past
+  past_bar past_stop past_point_lem past-dash past_hyphen past_feminine past_percent : Past
 
 -- what stands after a place: nothing that a rule asks for; a run of capitals; one with a small letter; digits; digits of a form; U+2044 and a
 -- digit; a full stop and º or ª; º or ª
 pub data Future : Type 0 where
-  rest caps-on mixed-on digits-on form_on bar-on stop-on mark_on : Future
+  rest caps_on mixed_on digits_on form_on bar_on stop_on mark_on : Future
 
 -- where a reader stands; what comes next in the text is a promise of the mode: `Owing` owes a small letter, `Low` the end of a form
 pub data Mode : Type 0 where
@@ -35,4 +35,4 @@ pub data Mode : Type 0 where
 
 -- what a row may begin with
 pub data Kind : Type 0 where
-  a-digit a-hyphen a-lower-zero : Kind
+  a_digit a_hyphen a_lower_zero : Kind

@@ -4,7 +4,7 @@ use Rattle.std.specs.Prelude.{List, ℕ, ◌≤◌, ◌<◌, length, get_or}
 use Rattle.rules.specs.Cells.{Text, Row, last_cell}
 use Rattle.rules.specs.Sorts.{Table}
 use Rattle.rules.specs.Normal.{normal_of}
-use Rattle.rules.specs.Places.{lacksSign, breaksPair, outside_form, shares_cells}
+use Rattle.rules.specs.Places.{lacks_sign, breaks_pair, outside_form, shares_cells}
 use Rattle.rules.specs.Rows.{Reads, FirstFault, Faultless, LeftOpen}
 use Rattle.rules.specs.Refusals.{Refusal, too_long, at_fault, needs_room, not_a_cell, no_text, longest_text, longest_row, reported}
 
@@ -18,10 +18,10 @@ pub data PrintRefused (tb : Table) (t : Text) (room : ℕ) : Refusal → Type 0 
   -- 1: "normalised text above 4,096 code points": "that length"
   refused_too_long : longest_text < length t → PrintRefused tb t room (too_long (reported (length t)))
   -- 2: "a code point with no sign": "its place"
-  no_sign : (n : ℕ) → length t ≤ longest_text → FirstFault tb t n lacksSign → PrintRefused tb t room (at_fault lacksSign n)
+  no_sign : (n : ℕ) → length t ≤ longest_text → FirstFault tb t n lacks_sign → PrintRefused tb t room (at_fault lacks_sign n)
   -- 3: "a pair mark against the pair rule": "its place; text length if something is open at the end"
-  pair_broken : (n : ℕ) → length t ≤ longest_text → FirstFault tb t n breaksPair → PrintRefused tb t room (at_fault breaksPair n)
-  left_open : length t ≤ longest_text → Faultless tb t → LeftOpen tb t → PrintRefused tb t room (at_fault breaksPair (length t))
+  pair_broken : (n : ℕ) → length t ≤ longest_text → FirstFault tb t n breaks_pair → PrintRefused tb t room (at_fault breaks_pair n)
+  left_open : length t ≤ longest_text → Faultless tb t → LeftOpen tb t → PrintRefused tb t room (at_fault breaks_pair (length t))
   -- 4: "º, ª or U+2044 outside the two forms, or after a number with a point or comma inside": "its place"
   refused_outside_form : (n : ℕ) → length t ≤ longest_text → FirstFault tb t n outside_form → PrintRefused tb t room (at_fault outside_form n)
   -- 5: "print that would share its cells": "place as below"

@@ -2,7 +2,7 @@
 use Rattle.std.specs.Prelude.{Bool, true, ◌&&◌, ◌||◌, cond, [], ◌∷◌}
 use Rattle.rules.specs.Sorts.{capital, ◌is◌, is_letter}
 use Rattle.rules.specs.Near.{Side, next, Near}
-use Rattle.rules.specs.Signs.{Way, bare, oneCapital, allCapitals}
+use Rattle.rules.specs.Signs.{Way, bare, one_capital, all_capitals}
 
 -- "A run is a longest stretch of letters." It goes on to a side where a letter stands first.
 unfoldable pub run_goes_on : Side → Bool
@@ -18,4 +18,4 @@ only_capitals (c ∷ s) = cond (is_letter c) (c is capital && only_capitals s) t
 -- has 46 before it."
 unfoldable pub capital_way : Near → Way
 capital_way n =
-    cond (n.capitals_before && n.capitals_after && (n.run_before || n.run_after)) (cond n.run_before bare allCapitals) oneCapital
+    cond (n.capitals_before && n.capitals_after && (n.run_before || n.run_after)) (cond n.run_before bare all_capitals) one_capital

@@ -3,7 +3,7 @@
 use Rattle.std.specs.Prelude.{true, false, List, [], ◌∷◌, ◌++◌, ℕ, zero, suc, ◌+◌, ◌-◌}
 use Prim.Native.Char.{Char, code}
 use Rattle.rules.specs.Cells.{dots, cells}
-use Rattle.rules.specs.Sorts.{letter, digit, full_stop, comma, hyphen, dash, fractionBar, ordinal, pair_mark, percent, plain, Item, Table}
+use Rattle.rules.specs.Sorts.{letter, digit, full_stop, comma, hyphen, dash, fraction_bar, ordinal, pair_mark, percent, plain, Item, Table}
 
 -- "Letters: a 1, b 12, c 14, .."
 small_letters : List (Char × ℕ)
@@ -70,7 +70,7 @@ common =
     ∷ ("†" written 5 ∷ 1235 ∷ [])
     ∷ (code "º", ordinal false)
     ∷ (code "ª", ordinal true)
-    ∷ (code "⁄", fractionBar)
+    ∷ (code "⁄", fraction_bar)
     ∷ pairs
 
 -- What Castilian has alone: a full stop without an apostrophe beside it, and a { that may stand anywhere.

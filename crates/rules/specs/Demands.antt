@@ -6,7 +6,7 @@ use Rattle.rules.specs.Sorts.{Table}
 use Rattle.rules.specs.Signs.{Sign, print_of, cells_of}
 use Rattle.rules.specs.Pairs.{open_after}
 use Rattle.rules.specs.Normal.{normal_of}
-use Rattle.rules.specs.Places.{Cause, breaksPair}
+use Rattle.rules.specs.Places.{Cause, breaks_pair}
 use Rattle.rules.specs.Rows.{items_in, Reads, Accepted, Fault, FirstFault, Faultless, LeftOpen, Verdict, good, bad, verdict_of, signs_of}
 use Rattle.rules.specs.Refusals.{Refusal, no_text, longest_text}
 use Rattle.rules.specs.Answers.{Answer, gives, refuses, PrintAnswer, ProperRow, ReadsAs, RowAnswer}
@@ -80,7 +80,7 @@ OneFaultEach tb = (t : Text) (n : ℕ) (c d : Cause) → Fault tb t n c → Faul
 -- "the least place among 2 to 5"; "text length if something is open at the end"
 abbrev pub VerdictMeans : Table → Text → Verdict → Type 0
 VerdictMeans tb t good = Accepted tb t
-VerdictMeans tb t (bad c n) = FirstFault tb t n c ⊎ ((c ≡ breaksPair) × (n ≡ length t) × Faultless tb t × LeftOpen tb t)
+VerdictMeans tb t (bad c n) = FirstFault tb t n c ⊎ ((c ≡ breaks_pair) × (n ≡ length t) × Faultless tb t × LeftOpen tb t)
 
 abbrev pub VerdictIsLeast : Table → Type 0
 VerdictIsLeast tb = (t : Text) → VerdictMeans tb t (verdict_of tb t)

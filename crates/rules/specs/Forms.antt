@@ -1,7 +1,7 @@
 -- Ordinals and fractions (paper 01, "Ordinals and fractions"). In order: plain digits before a place; a form's stop before it; a form ahead of
 -- it; where U+2044, º and ª stand. Assumes nothing.
 use Rattle.std.specs.Prelude.{Bool, false, ◌&&◌, ◌||◌, not, cond, [], ◌∷◌}
-use Rattle.rules.specs.Sorts.{aBar, ◌is◌, is_digit, is_stop, is_ordinal}
+use Rattle.rules.specs.Sorts.{a_bar, ◌is◌, is_digit, is_stop, is_ordinal}
 use Rattle.rules.specs.Near.{Side, next, Near}
 use Rattle.rules.specs.Numbers.{under_bar, number_goes_on}
 
@@ -21,7 +21,7 @@ ordinal_stop (c ∷ s) = is_stop c && plain_digits s
 unfoldable pub form_goes_on : Side → Bool
 unfolding next
 form_goes_on [] = false
-form_goes_on (c ∷ s) = cond (is_digit c) (form_goes_on s) (c is aBar && next is_digit s || is_stop c && next is_ordinal s)
+form_goes_on (c ∷ s) = cond (is_digit c) (form_goes_on s) (c is a_bar && next is_digit s || is_stop c && next is_ordinal s)
 
 -- the same of a place
 abbrev pub after_plain_digits : Near → Bool

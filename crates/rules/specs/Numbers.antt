@@ -1,14 +1,14 @@
 -- Numbers (paper 01, "Numbers"). In order: a number on the side before a place; how a digit, a point or comma, and a to j are written.
 -- Not here: what makes a form (`Forms`). Assumes nothing.
 use Rattle.std.specs.Prelude.{Bool, false, ◌&&◌, ◌||◌, not, cond, [], ◌∷◌}
-use Rattle.rules.specs.Sorts.{aBar, ◌is◌, is_digit, is_point}
+use Rattle.rules.specs.Sorts.{a_bar, ◌is◌, is_digit, is_point}
 use Rattle.rules.specs.Near.{Side, next, Near}
-use Rattle.rules.specs.Signs.{Way, bare, separated, firstDigit, firstLower, lower, denominator, inside}
+use Rattle.rules.specs.Signs.{Way, bare, separated, first_digit, first_lower, lower, denominator, inside}
 
 -- Past the digits that stand first on the side before (perhaps none) comes U+2044: they and the place go on with a denominator.
 unfoldable pub under_bar : Side → Bool
 under_bar [] = false
-under_bar (c ∷ s) = cond (is_digit c) (under_bar s) (c is aBar)
+under_bar (c ∷ s) = cond (is_digit c) (under_bar s) (c is a_bar)
 
 -- "a point or comma that directly follows a digit of an ordinary number" stands directly before
 unfoldable pub number_point : Side → Bool
@@ -28,7 +28,7 @@ unfoldable pub digit_way : Near → Way
 digit_way n =
     cond n.after_bar denominator
     (cond (n.in_denominator || n.past_point) bare
-    (cond n.after_digit (cond n.form_ahead lower bare) (cond n.form_ahead firstLower firstDigit)))
+    (cond n.after_digit (cond n.form_ahead lower bare) (cond n.form_ahead first_lower first_digit)))
 
 -- "any single full stop or comma that stands directly between two digits"; "Both forms end the number: a point or comma after them is
 -- punctuation".

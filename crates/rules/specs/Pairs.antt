@@ -2,7 +2,7 @@
 -- a number more here and two entries of the table. Nothing here knows of any other rule. Assumes nothing.
 use Rattle.std.specs.Prelude.{Bool, true, false, ◌&&◌, not, cond, List, [], ◌∷◌, ℕ, zero, suc, eqb}
 use Rattle.std.proofs.Math.Option.{Option, none, some}
-use Rattle.rules.specs.Sorts.{Sort, letter, digit, full_stop, comma, hyphen, dash, fractionBar, ordinal, pair_mark, percent, plain, no_sign, Item}
+use Rattle.rules.specs.Sorts.{Sort, letter, digit, full_stop, comma, hyphen, dash, fraction_bar, ordinal, pair_mark, percent, plain, no_sign, Item}
 
 -- "The five kinds ¿?, ¡!, «», ‘’ and emphasis": 0 to 4, in this order
 abbrev pub kinds : ℕ
@@ -20,7 +20,7 @@ mark_of (full_stop b) = none
 mark_of comma = none
 mark_of hyphen = none
 mark_of dash = none
-mark_of fractionBar = none
+mark_of fraction_bar = none
 mark_of (ordinal b) = none
 mark_of (pair_mark k b w) = some (k, b)
 mark_of (percent w) = none
@@ -33,7 +33,7 @@ may_stand opener is_open = cond opener (not is_open) is_open
 
 -- an opener leaves its kind open, a closer closed, whatever it was
 abbrev pub leaves_open : Bool → Bool → Bool
-leaves_open opener wasOpen = opener
+leaves_open opener was_open = opener
 
 abbrev pub mark_fits : Opens → Option (ℕ × Bool) → Bool
 mark_fits o none = true

@@ -2,9 +2,9 @@
 -- four faults; how a place without a fault is written. Assumes nothing.
 use Rattle.std.specs.Prelude.{Bool, ◌&&◌, ◌||◌, not, cond, List, [], ◌∷◌, map, ℕ, zero, suc, T}
 use Rattle.std.proofs.Math.Option.{Option, none, some}
-use Rattle.rules.specs.Sorts.{Item, Class, aToJ, otherSmall, capital, one, otherDigit, aStop, aComma, aHyphen, aDash, aBar, masculine, feminine, aPercent, otherSign, unlisted, class, ◌is◌, is_digit, is_ordinal}
+use Rattle.rules.specs.Sorts.{Item, Class, a_to_j, other_small, capital, one, other_digit, a_stop, a_comma, a_hyphen, a_dash, a_bar, masculine, feminine, a_percent, other_sign, unlisted, class, ◌is◌, is_digit, is_ordinal}
 use Rattle.rules.specs.Near.{Side, next, Near}
-use Rattle.rules.specs.Signs.{Way, bare, ordinalMark}
+use Rattle.rules.specs.Signs.{Way, bare, ordinal_mark}
 use Rattle.rules.specs.Capitals.{run_goes_on, only_capitals, capital_way}
 use Rattle.rules.specs.Numbers.{under_bar, number_point, number_goes_on, digit_way, point_way, a_to_j_way}
 use Rattle.rules.specs.Forms.{ordinal_stop, form_goes_on, bar_of_fraction, stop_of_ordinal}
@@ -33,10 +33,10 @@ unfolding next run_goes_on only_capitals under_bar number_point number_goes_on o
 near b a =
     record {
       after_digit = next is_digit b;
-      after_bar = next (λ c. c is aBar) b;
+      after_bar = next (λ c. c is a_bar) b;
       after_feminine = next (λ c. c is feminine) b;
-      after_hyphen = next (λ c. c is aHyphen) b;
-      after_dash = next (λ c. c is aDash) b;
+      after_hyphen = next (λ c. c is a_hyphen) b;
+      after_dash = next (λ c. c is a_dash) b;
       after_point = number_point b;
       after_ordinal_stop = ordinal_stop b;
       in_denominator = under_bar b;
@@ -52,7 +52,7 @@ near b a =
 
 -- why a place is refused
 pub data Cause : Type 0 where
-  lacksSign breaksPair outside_form shares_cells : Cause
+  lacks_sign breaks_pair outside_form shares_cells : Cause
 
 -- Number 2: "a code point with no sign"
 abbrev pub has_no_sign : Class → Bool
@@ -60,16 +60,16 @@ has_no_sign c = c is unlisted
 
 -- Number 4: "º, ª or U+2044 outside the two forms, or after a number with a point or comma inside"
 abbrev pub is_outside_form : Near → Class → Bool
-is_outside_form n c = c is aBar && not (bar_of_fraction n) || is_ordinal c && not n.after_ordinal_stop
+is_outside_form n c = c is a_bar && not (bar_of_fraction n) || is_ordinal c && not n.after_ordinal_stop
 
 -- Number 5 "is given for exactly these":
 -- "a lower-case a to j directly after a point or comma that directly follows a digit of an ordinary number (place of the letter)"
 abbrev pub letter_after_point : Near → Class → Bool
-letter_after_point n c = c is aToJ && n.after_point
+letter_after_point n c = c is a_to_j && n.after_point
 
 -- "a hyphen next to a hyphen or to U+2014 (the later of the two)"
 abbrev pub hyphen_beside : Near → Class → Bool
-hyphen_beside n c = c is aHyphen && (n.after_hyphen || n.after_dash) || c is aDash && n.after_hyphen
+hyphen_beside n c = c is a_hyphen && (n.after_hyphen || n.after_dash) || c is a_dash && n.after_hyphen
 
 -- "a denominator that is exactly "1" (that digit)"
 abbrev pub denominator_one : Near → Class → Bool
@@ -77,7 +77,7 @@ denominator_one n c = c is one && n.after_bar && not n.before_digit
 
 -- "a lower-case a to j directly after ª (that letter)"
 abbrev pub letter_after_feminine : Near → Class → Bool
-letter_after_feminine n c = c is aToJ && n.after_feminine
+letter_after_feminine n c = c is a_to_j && n.after_feminine
 
 abbrev pub would_share_cells : Near → Class → Bool
 would_share_cells n c = letter_after_point n c || hyphen_beside n c || denominator_one n c || letter_after_feminine n c
@@ -90,8 +90,8 @@ class_of p = class_at p.here
 
 -- The faults of a place, one to a line of the paper's table.
 pub data Faulty (p : Place) : Cause → Type 0 where
-  without_sign : T (has_no_sign (class_of p)) → Faulty p lacksSign
-  against_pair_rule : T (not (fits (open_after p.before) p.here.1)) → Faulty p breaksPair
+  without_sign : T (has_no_sign (class_of p)) → Faulty p lacks_sign
+  against_pair_rule : T (not (fits (open_after p.before) p.here.1)) → Faulty p breaks_pair
   out_of_form : T (is_outside_form (near_of p) (class_of p)) → Faulty p outside_form
   sharing_cells : T (would_share_cells (near_of p) (class_of p)) → Faulty p shares_cells
 
@@ -104,24 +104,24 @@ pub data Outcome : Type 0 where
 -- How a place that is not at fault is written: "the full stop has no cell", "U+2044 has no cell". (What it says of a place at fault is not used.)
 unfoldable pub written : Near → Class → Outcome
 unfolding capital_way digit_way point_way a_to_j_way
-written n aToJ = sign (a_to_j_way n)
-written n otherSmall = sign bare
+written n a_to_j = sign (a_to_j_way n)
+written n other_small = sign bare
 written n capital = sign (capital_way n)
 written n one = sign (digit_way n)
-written n otherDigit = sign (digit_way n)
-written n aStop = cond (stop_of_ordinal n) silent (sign (point_way n))
-written n aComma = sign (point_way n)
-written n aHyphen = sign bare
-written n aDash = sign bare
-written n aBar = silent
-written n masculine = sign ordinalMark
-written n feminine = sign ordinalMark
-written n aPercent = sign bare
-written n otherSign = sign bare
+written n other_digit = sign (digit_way n)
+written n a_stop = cond (stop_of_ordinal n) silent (sign (point_way n))
+written n a_comma = sign (point_way n)
+written n a_hyphen = sign bare
+written n a_dash = sign bare
+written n a_bar = silent
+written n masculine = sign ordinal_mark
+written n feminine = sign ordinal_mark
+written n a_percent = sign bare
+written n other_sign = sign bare
 written n unlisted = silent
 
 unfoldable pub outcome : Near → Class → Outcome
 unfolding written
 outcome n c =
-    cond (has_no_sign c) (fault lacksSign)
+    cond (has_no_sign c) (fault lacks_sign)
     (cond (is_outside_form n c) (fault outside_form) (cond (would_share_cells n c) (fault shares_cells) (written n c)))

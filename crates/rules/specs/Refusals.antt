@@ -1,7 +1,7 @@
 -- Refusals (paper 01, "Numbers the desk shows"). In order: the refusals by name; the number and second number of each; the lengths. This is the
 -- one place that knows a refusal's number. Assumes nothing.
 use Rattle.std.specs.Prelude.{ℕ, min}
-use Rattle.rules.specs.Places.{Cause, lacksSign, breaksPair, outside_form, shares_cells}
+use Rattle.rules.specs.Places.{Cause, lacks_sign, breaks_pair, outside_form, shares_cells}
 
 pub data Refusal : Type 0 where
   -- the text or the row is too long: that length
@@ -18,8 +18,8 @@ pub data Refusal : Type 0 where
 -- the column "No."
 unfoldable pub number_of : Refusal → ℕ
 number_of (too_long n) = 1
-number_of (at_fault lacksSign n) = 2
-number_of (at_fault breaksPair n) = 3
+number_of (at_fault lacks_sign n) = 2
+number_of (at_fault breaks_pair n) = 3
 number_of (at_fault outside_form n) = 4
 number_of (at_fault shares_cells n) = 5
 number_of (needs_room n) = 6

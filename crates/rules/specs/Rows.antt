@@ -6,7 +6,7 @@ use Rattle.rules.specs.Cells.{Text, Row}
 use Rattle.rules.specs.Sorts.{Sort, no_sign, Item, Table}
 use Rattle.rules.specs.Signs.{sign_cells, Sign}
 use Rattle.rules.specs.Pairs.{fits, open_after, closed}
-use Rattle.rules.specs.Places.{Place, place_from, near_of, class_of, Cause, breaksPair, Faulty, Outcome, fault, silent, sign, outcome}
+use Rattle.rules.specs.Places.{Place, place_from, near_of, class_of, Cause, breaks_pair, Faulty, Outcome, fault, silent, sign, outcome}
 
 -- "any number not listed below" has no sign
 unfoldable pub sort_in : Table → ℕ → Sort
@@ -81,13 +81,13 @@ pub data Verdict : Type 0 where
   bad : Cause → ℕ → Verdict
 
 abbrev pub judge : Bool → Outcome → ℕ → Verdict → Verdict
-judge false x n v = bad breaksPair n
+judge false x n v = bad breaks_pair n
 judge true (fault c) n v = bad c n
 judge true silent n v = v
 judge true (sign w) n v = v
 
 unfoldable pub verdict_from : List Item → ℕ → List Item → Verdict
-verdict_from b n [] = cond (closed (open_after b)) good (bad breaksPair n)
+verdict_from b n [] = cond (closed (open_after b)) good (bad breaks_pair n)
 verdict_from b n (i ∷ a) = judge (fits_at (at b i a)) (outcome_at (at b i a)) n (verdict_from (i ∷ b) (suc n) a)
 
 unfoldable pub verdict_of : Table → Text → Verdict

@@ -3,17 +3,17 @@
 -- Assumes nothing.
 use Rattle.std.specs.Prelude.{true, false, List, [], ◌∷◌, ◌++◌, ℕ, ◌+◌, ◌%◌, get_or}
 use Rattle.rules.specs.Cells.{Text, Row, dots, cells}
-use Rattle.rules.specs.Sorts.{Sort, letter, digit, full_stop, comma, hyphen, dash, fractionBar, ordinal, pair_mark, percent, plain, no_sign, digit_dots}
+use Rattle.rules.specs.Sorts.{Sort, letter, digit, full_stop, comma, hyphen, dash, fraction_bar, ordinal, pair_mark, percent, plain, no_sign, digit_dots}
 
 -- "A sign is the cells of one code point, with any 46-46, 46, 3456 or separating 5 before them. A code point without a cell goes with the sign
--- after it": so `denominator` (after U+2044) and `ordinalMark` (after the full stop) are ways of their own.
+-- after it": so `denominator` (after U+2044) and `ordinal_mark` (after the full stop) are ways of their own.
 pub data Way : Type 0 where
   -- its cells; after 46; after 46-46; after a separating 5
-  bare oneCapital allCapitals separated : Way
+  bare one_capital all_capitals separated : Way
   -- the first digit of a number; of an ordinal or a fraction; a later lower digit
-  firstDigit firstLower lower : Way
+  first_digit first_lower lower : Way
   -- the first digit of a denominator; º or ª of an ordinal; a point or comma inside a number
-  denominator ordinalMark inside : Way
+  denominator ordinal_mark inside : Way
 
 -- "Lower digits 1 to 9 and 0 are 2, 23, 25, 256, 26, 235, 2356, 236, 35, 356."
 abbrev pub lower_dots : List ℕ
@@ -31,7 +31,7 @@ own_cells (full_stop b) = cells (3 ∷ [])
 own_cells comma = cells (2 ∷ [])
 own_cells hyphen = cells (36 ∷ [])
 own_cells dash = cells (36 ∷ 36 ∷ [])
-own_cells fractionBar = []
+own_cells fraction_bar = []
 own_cells (ordinal true) = cells (1 ∷ [])
 own_cells (ordinal false) = cells (135 ∷ [])
 own_cells (pair_mark k b w) = w
@@ -47,7 +47,7 @@ lower_cells (full_stop b) = []
 lower_cells comma = []
 lower_cells hyphen = []
 lower_cells dash = []
-lower_cells fractionBar = []
+lower_cells fraction_bar = []
 lower_cells (ordinal b) = []
 lower_cells (pair_mark k b w) = []
 lower_cells (percent w) = []
@@ -56,14 +56,14 @@ lower_cells no_sign = []
 
 unfoldable pub sign_cells : Way → Sort → Row
 sign_cells bare s = own_cells s
-sign_cells oneCapital s = cells (46 ∷ []) ++ own_cells s
-sign_cells allCapitals s = cells (46 ∷ 46 ∷ []) ++ own_cells s
+sign_cells one_capital s = cells (46 ∷ []) ++ own_cells s
+sign_cells all_capitals s = cells (46 ∷ 46 ∷ []) ++ own_cells s
 sign_cells separated s = cells (5 ∷ []) ++ own_cells s
-sign_cells firstDigit s = cells (3456 ∷ []) ++ own_cells s
-sign_cells firstLower s = cells (3456 ∷ []) ++ lower_cells s
+sign_cells first_digit s = cells (3456 ∷ []) ++ own_cells s
+sign_cells first_lower s = cells (3456 ∷ []) ++ lower_cells s
 sign_cells lower s = lower_cells s
 sign_cells denominator s = own_cells s
-sign_cells ordinalMark s = own_cells s
+sign_cells ordinal_mark s = own_cells s
 sign_cells inside s = own_cells s
 
 -- what a step of the screen shows: "one or two code points", and the cells that it passes over

@@ -148,7 +148,7 @@ back_two a b t =
     back (a ∷ b ∷ []) c (scalar_low c (omega (arith, p.1, q.1))) (two_bytes c (omega (arith, p.0)) (omega (arith, p.1, q.1)) ∙ rw (first, second) refl)
 
 -- three: a line of which is known that its numbers are at least 800, and no surrogates
-module _ (low high lower higher : ℕ) (low-is : 0xe0 ≤ low) (high_is : high ≤ 0xef) (lower-is : 0x80 ≤ lower) (higher-is : higher ≤ 0xbf)
+module _ (low high lower higher : ℕ) (low_is : 0xe0 ≤ low) (high_is : high ≤ 0xef) (lower_is : 0x80 ≤ lower) (higher_is : higher ≤ 0xbf)
     (apart : (a b : ℕ) → low ≤ a → a ≤ high → lower ≤ b → b ≤ higher → (d : ℕ) → d < 64 → (0x800 ≤ ((a - 0xe0) * 64 + (b - 0x80)) * 64 + d)
     × ((((a - 0xe0) * 64 + (b - 0x80)) * 64 + d < 0xd800) ⊎ (0xe000 ≤ ((a - 0xe0) * 64 + (b - 0x80)) * 64 + d))) where
   back_three : (a b e : ℕ) → T (begin (low to high ∷ lower to higher ∷ 0x80 to 0xbf ∷ []) (a ∷ b ∷ e ∷ [])) → Back (a ∷ b ∷ e ∷ []) (point_of (a ∷ b ∷ e ∷ []))
@@ -158,15 +158,15 @@ module _ (low high lower higher : ℕ) (low-is : 0xe0 ≤ low) (high_is : high �
       let r = front 0x80 0xbf e [] [] q.2 in
       let c : ℕ = ((a - 0xe0) * 64 + (b - 0x80)) * 64 + (e - 0x80) in
       let facts = apart a b p.0 p.1 q.0 q.1 (e - 0x80) (omega (arith, r.1)) in
-      let most : c < 0x10000 = omega (arith, p.1, high_is, q.1, higher-is, r.1) in
-      let first : 0xe0 + c / 0x1000 ≡ a = omega (arith, p.0, low-is, q.1, higher-is, r.1) in
-      let second : 0x80 + c / 0x40 % 0x40 ≡ b = omega (arith, q.0, lower-is, q.1, higher-is, r.1) in
+      let most : c < 0x10000 = omega (arith, p.1, high_is, q.1, higher_is, r.1) in
+      let first : 0xe0 + c / 0x1000 ≡ a = omega (arith, p.0, low_is, q.1, higher_is, r.1) in
+      let second : 0x80 + c / 0x40 % 0x40 ≡ b = omega (arith, q.0, lower_is, q.1, higher_is, r.1) in
       let third : 0x80 + c % 0x40 ≡ e = omega (arith, r.0, r.1) in
       let scalar : is_scalar c ≡ true = ⊎_elim (λ h. scalar_low c h) (λ h. scalar_high c h (omega (arith, most))) facts.1 in
       back (a ∷ b ∷ e ∷ []) c scalar (three_bytes c facts.0 most ∙ rw (first, second, third) refl)
 
 -- four: a line of which is known that its numbers are at least 10000 and at most 10FFFF
-module _ (low high lower higher : ℕ) (low-is : 0xf0 ≤ low) (high_is : high ≤ 0xf4) (lower-is : 0x80 ≤ lower) (higher-is : higher ≤ 0xbf)
+module _ (low high lower higher : ℕ) (low_is : 0xf0 ≤ low) (high_is : high ≤ 0xf4) (lower_is : 0x80 ≤ lower) (higher_is : higher ≤ 0xbf)
     (apart : (a b : ℕ) → low ≤ a → a ≤ high → lower ≤ b → b ≤ higher → (0x10 ≤ (a - 0xf0) * 64 + (b - 0x80)) × ((a - 0xf0) * 64 + (b - 0x80) < 0x110)) where
   back_four : (a b e g : ℕ) → T (begin (low to high ∷ lower to higher ∷ 0x80 to 0xbf ∷ 0x80 to 0xbf ∷ []) (a ∷ b ∷ e ∷ g ∷ []))
       → Back (a ∷ b ∷ e ∷ g ∷ []) (point_of (a ∷ b ∷ e ∷ g ∷ []))
@@ -181,8 +181,8 @@ module _ (low high lower higher : ℕ) (low-is : 0xf0 ≤ low) (high_is : high �
       let facts = apart a b p.0 p.1 q.0 q.1 in
       let upper : c / 0x1000 ≡ u = omega (arith, r.1, o.1) in
       let middle : c / 0x40 ≡ v = omega (arith, o.1) in
-      let first : 0xf0 + c / 0x40000 ≡ a = omega (arith, upper, p.0, low-is, q.1, higher-is) in
-      let second : 0x80 + c / 0x1000 % 0x40 ≡ b = rw upper (omega (arith, q.0, lower-is, q.1, higher-is)) in
+      let first : 0xf0 + c / 0x40000 ≡ a = omega (arith, upper, p.0, low_is, q.1, higher_is) in
+      let second : 0x80 + c / 0x1000 % 0x40 ≡ b = rw upper (omega (arith, q.0, lower_is, q.1, higher_is)) in
       let third : 0x80 + c / 0x40 % 0x40 ≡ e = rw middle (omega (arith, r.0, r.1)) in
       let fourth : 0x80 + c % 0x40 ≡ g = omega (arith, o.0, o.1) in
       let least : 0x10000 ≤ c = omega (arith, facts.0) in

@@ -61,9 +61,9 @@ module _ (bytes : List ℕ) (at b : ℕ) (there : at < length bytes) (byte : b �
           let width : length (take n rest) ≡ n = length-take-le n rest (rw length-drop later_there) in
           let value : joined (b - mark) (take n rest) ≡ point_of (b ∷ take n rest) =
           ap (λ (k : ℕ). joined (b - k) (take n rest)) (begun.marked ∙ sym (ap (λ (k : ℕ). mark_of (suc k)) width)) in
-          let there-is : point_by (suc n) (b ∷ rest) ≡ point_of (b ∷ take n rest) = rw (eqb-suc-zero n) refl in
+          let there_is : point_by (suc n) (b ∷ rest) ≡ point_of (b ∷ take n rest) = rw (eqb-suc-zero n) refl in
           let point_is : v ≡ point_at (b ∷ rest) =
-          j.1 ∙ ap (λ (k : ℕ). joined (b - mark) (take k rest)) (length_later n low high) ∙ value ∙ sym there-is
+          j.1 ∙ ap (λ (k : ℕ). joined (b - mark) (take k rest)) (length_later n low high) ∙ value ∙ sym there_is
           ∙ sym (ap (λ (k : ℕ). point_by k (b ∷ rest)) whole) in
           let length_is : length_at (drop at bytes) ≡ suc n = ap length_at rest_is ∙ whole in record {
             point = e ∙ point_is ∙ sym (ap point_at rest_is);

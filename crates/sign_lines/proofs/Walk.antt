@@ -53,11 +53,11 @@ module _ (row : Row) (t : Text) (h : ReadsAs castilian row t) where
   step_is : (n : ℕ) (s : Sign) (ss : List Sign) → Left castilian sane row t h n (s ∷ ss) → (lead point : ℕ) → s.shown ≡ points lead point
       → (g : desk.Sign) → ShowsSign castilian row n g → g ≡ points_of lead point (n + length s.taken)
   unfolding sign_of
-  step_is n s ss l lead point q g shows-g =
+  step_is n s ss l lead point q g shows_g =
       let next : ℕ = n + length s.taken in
       let e : Stepped castilian row n (shows (record { points = points lead point; next = next })) =
       subst (λ (u : Text). Stepped castilian row n (shows (record { points = u; next = next }))) q (step_here castilian sane row t h n s ss l) in
-      one_sign row n g (points_of lead point next) shows-g
+      one_sign row n g (points_of lead point next) shows_g
       (record { shown = steps.Sign lead point next; promise = sign_there lead point next e; shows = refl })
 
 -- THE WALK
@@ -90,7 +90,7 @@ module _ (row : Row) (lent : List ℕ) (at : ℕ) where
     pub walk_on : place < length row → (g : desk.Sign) → ShowsSign castilian row place g
         → (end' : ℕ) (out' : List ℕ) → Prints out end (sign_line place (shown_text g)) end' out'
         → Walk row lent at out' g.next end' × (place < g.next) × (g.next ≤ length row)
-    walk_on inside g shows-g end' out' p = go w.left w.coded w.filled w.here w.printed
+    walk_on inside g shows_g end' out' p = go w.left w.coded w.filled w.here w.printed
       where
         go : (ss : List Sign) → Coded ss → Filled castilian sane ss → Left castilian sane row w.text w.reads place ss
             → Mid lent at (sign_lines 0 (signs_of castilian w.text)) (sign_lines place ss) end out
@@ -98,7 +98,7 @@ module _ (row : Row) (lent : List ℕ) (at : ℕ) where
         go [] c f l m = absurd (omega (arith, l.1, inside))
         go (s ∷ ss) c f l m =
             let next : ℕ = place + length s.taken in
-            let is : g ≡ points_of c.0.0 c.0.1 next = step_is row w.text w.reads place s ss l c.0.0 c.0.1 c.0.2 g shows-g in
+            let is : g ≡ points_of c.0.0 c.0.1 next = step_is row w.text w.reads place s ss l c.0.0 c.0.1 c.0.2 g shows_g in
             let shown_is : shown_text g ≡ s.shown = ap shown_text is ∙ shown_points c.0.0 c.0.1 next ∙ sym c.0.2 in
             let next_is : g.next ≡ next = ap (λ (x : desk.Sign). x.next) is ∙ next_points c.0.0 c.0.1 next in
             let on : Walk row lent at out' next end' = record {

@@ -49,11 +49,11 @@ module _ {row : Row} {before at m₁ o₁ c₁ : ℕ} (w₁ : Went row before 0 
                 omega (arith, w₁.count, w₂.count, w₃.count, ap length (print_join w₁.signs (w₂.signs ++ w₃.signs)), length-append (print_of w₁.signs) (print_of (w₂.signs ++ w₃.signs)), ap length (print_join w₂.signs w₃.signs), length-append (print_of w₂.signs) (print_of w₃.signs));
           }
 
-      module _ (place : ℕ) (is-before : ((place < length row) × (before ≡ place)) ⊎ ((length row ≤ place) × (before ≡ length row)))
-          (is-behind : ((at ≡ place) × (at < length row) × (behind ≡ at + 1)) ⊎ (((at ≡ place) → length row ≤ at) × (behind ≡ at))) where
+      module _ (place : ℕ) (is_before : ((place < length row) × (before ≡ place)) ⊎ ((length row ≤ place) × (before ≡ length row)))
+          (is_behind : ((at ≡ place) × (at < length row) × (behind ≡ at + 1)) ⊎ (((at ≡ place) → length row ≤ at) × (behind ≡ at))) where
         -- where no sign is read at the place, none starts there
         pub no_sign_seen : next ≡ at → sign_at told_parts.signs place ≡ none
-        no_sign_seen same = go is-before is-behind
+        no_sign_seen same = go is_before is_behind
           where
             xs : List Sign
             xs = w₂.signs ++ w₃.signs
@@ -85,7 +85,7 @@ module _ {row : Row} {before at m₁ o₁ c₁ : ℕ} (w₁ : Went row before 0 
           pub print : print_of w₂.signs ≡ sign.shown
 
         pub sign_seen : (next ≡ at → ⊥) → Seen
-        sign_seen other = go is-behind w₂.signs refl
+        sign_seen other = go is_behind w₂.signs refl
           where
             go : ((at ≡ place) × (at < length row) × (behind ≡ at + 1)) ⊎ (((at ≡ place) → length row ≤ at) × (behind ≡ at)) → (zs : List Sign) → w₂.signs ≡ zs → Seen
             go (inr y) zs e =

@@ -12,7 +12,7 @@ use lib.ListN.{length}
 use borrow.Author.Tests.{le-leb, lt-leb}
 use Rattle.rules.specs.Cells.{Text, Row}
 use Rattle.rules.specs.Sorts.{Table}
-use Rattle.rules.specs.Places.{lacksSign, breaksPair, outside_form, shares_cells}
+use Rattle.rules.specs.Places.{lacks_sign, breaks_pair, outside_form, shares_cells}
 use Rattle.rules.specs.Pairs.{open_after, closed_below, closed}
 use Rattle.rules.specs.Rows.{Verdict, good, bad, verdict_of, items_in, row_from, row_of}
 use Rattle.rules.specs.Normal.{normal_of, normal_after}
@@ -31,8 +31,8 @@ use Rattle.passes.specs.declared.Measured.{Measured}
 -- an answer that accepts is to an accepted text; one that does not leaves the row as it was
 shown_good : (v : Verdict) (m room : ℕ) → accepted_by (fitted_by (shown v m) room) ≡ true → v ≡ good
 shown_good good m room e = refl
-shown_good (bad lacksSign i) m room e = absurd (true≢false (sym e))
-shown_good (bad breaksPair i) m room e = absurd (true≢false (sym e))
+shown_good (bad lacks_sign i) m room e = absurd (true≢false (sym e))
+shown_good (bad breaks_pair i) m room e = absurd (true≢false (sym e))
 shown_good (bad outside_form i) m room e = absurd (true≢false (sym e))
 shown_good (bad shares_cells i) m room e = absurd (true≢false (sym e))
 
@@ -42,8 +42,8 @@ shown_kept good m r lent e = absurd (go (leb m (length lent)) e)
     go : (b : Bool) → accepted_by (cond b (Done m) (NeedsRoom m)) ≡ false → ⊥
     go true e = true≢false e
     go false e = true≢false e
-shown_kept (bad lacksSign i) m r lent e = refl
-shown_kept (bad breaksPair i) m r lent e = refl
+shown_kept (bad lacks_sign i) m r lent e = refl
+shown_kept (bad breaks_pair i) m r lent e = refl
 shown_kept (bad outside_form i) m r lent e = refl
 shown_kept (bad shares_cells i) m r lent e = refl
 
@@ -76,8 +76,8 @@ module _ (tb : Table) (p : Text) (lent : List ℕ) where
         (λ l. rw (lt-leb n (length lent) l)
         (refused (NeedsRoom n) (needs_room n) refl
         (subst (PrintAnswer tb p (length lent)) (choose_lt n (length lent) (gives r) (refuses (needs_room n)) l) (by good e)))) (le_or_lt n (length lent))
-    kept (bad lacksSign i) e = refused (NoSign i) (at_fault lacksSign i) refl (by (bad lacksSign i) e)
-    kept (bad breaksPair i) e = refused (PairBroken i) (at_fault breaksPair i) refl (by (bad breaksPair i) e)
+    kept (bad lacks_sign i) e = refused (NoSign i) (at_fault lacks_sign i) refl (by (bad lacks_sign i) e)
+    kept (bad breaks_pair i) e = refused (PairBroken i) (at_fault breaks_pair i) refl (by (bad breaks_pair i) e)
     kept (bad outside_form i) e = refused (OutsideForm i) (at_fault outside_form i) refl (by (bad outside_form i) e)
     kept (bad shares_cells i) e = refused (SharesCells i) (at_fault shares_cells i) refl (by (bad shares_cells i) e)
 

@@ -10,7 +10,7 @@ use lib.ListN.{length, drop, get_or}
 use lib.Seq.{get_or-append-add, get_or-drop}
 use Rattle.rules.specs.Cells.{Text, Row}
 use Rattle.rules.specs.Sorts.{Table}
-use Rattle.rules.specs.Places.{lacksSign, breaksPair, outside_form, shares_cells}
+use Rattle.rules.specs.Places.{lacks_sign, breaks_pair, outside_form, shares_cells}
 use Rattle.rules.specs.Normal.{normal_of}
 use Rattle.rules.specs.Rows.{Reads, Accepted}
 use Rattle.rules.specs.Refusals.{Refusal, too_long, at_fault, needs_room, not_a_cell, no_text, longest_text}
@@ -31,8 +31,8 @@ use Rattle.transcriber.specs.Claims.{OneOutcome, Refuses, RefusedExactly, CountI
 -- an answer is known by its refusal
 back : Refusal → Answer
 back (too_long n) = TooLong n
-back (at_fault lacksSign n) = NoSign n
-back (at_fault breaksPair n) = PairBroken n
+back (at_fault lacks_sign n) = NoSign n
+back (at_fault breaks_pair n) = PairBroken n
 back (at_fault outside_form n) = OutsideForm n
 back (at_fault shares_cells n) = SharesCells n
 back (needs_room n) = NeedsRoom n

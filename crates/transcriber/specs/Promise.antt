@@ -5,7 +5,7 @@ use Rattle.std.specs.Prelude.{List, ◌≡◌, ℕ, length}
 use Rattle.std.proofs.Math.Option.{Option, none, some}
 use Rattle.rules.specs.Cells.{Text, Row}
 use Rattle.rules.specs.Sorts.{Table}
-use Rattle.rules.specs.Places.{lacksSign, breaksPair, outside_form, shares_cells}
+use Rattle.rules.specs.Places.{lacks_sign, breaks_pair, outside_form, shares_cells}
 use Rattle.rules.specs.Refusals.{Refusal, too_long, at_fault, needs_room, number_of, second_of}
 use Rattle.rules.specs.Answers.{gives, refuses, PrintAnswer}
 use Rattle.rows.specs.Laid.{laid}
@@ -16,8 +16,8 @@ use Rattle.passes.specs.declared.Answer.TheVariants.{Done, TooLong, NoSign, Pair
 abbrev pub refusal_of : Answer → Option Refusal
 refusal_of (Done n) = none
 refusal_of (TooLong n) = some (too_long n)
-refusal_of (NoSign n) = some (at_fault lacksSign n)
-refusal_of (PairBroken n) = some (at_fault breaksPair n)
+refusal_of (NoSign n) = some (at_fault lacks_sign n)
+refusal_of (PairBroken n) = some (at_fault breaks_pair n)
 refusal_of (OutsideForm n) = some (at_fault outside_form n)
 refusal_of (SharesCells n) = some (at_fault shares_cells n)
 refusal_of (NeedsRoom n) = some (needs_room n)

@@ -10,7 +10,7 @@ use Prim.Native.Nat.{ℕ, zero, suc, ◌+◌, ◌≤◌, ◌<◌}
 use native.Mathlib.Numerals.{add-one}
 use lib.Dec.{T}
 use lib.ListN.{length, drop, get_or-eq_default}
-use Rattle.rules.specs.Sorts.{Table, Class, unlisted, aStop, aBar, class, ◌is◌, is_digit, is_ordinal}
+use Rattle.rules.specs.Sorts.{Table, Class, unlisted, a_stop, a_bar, class, ◌is◌, is_digit, is_ordinal}
 use Rattle.rules.specs.Rows.{sort_in, item_in, items_in}
 use Rattle.rules.specs.Castilian.{castilian}
 use Rattle.rules.proofs.Finite.{every2, at2, beq_same, implies, le_or_lt}
@@ -113,7 +113,7 @@ module _ (tb : Table) (none_at_zero : class (sort_in tb 0) ≡ unlisted) where
   unfolding look ends_form
   form_at text i e =
       ap form_next (future_step text i)
-      ∙ seen_where (λ c. not (is_digit c)) form_next (λ c f. cond (c is aStop) (mark_next f) (cond (c is aBar) (digit_next f) false)) tt
+      ∙ seen_where (λ c. not (is_digit c)) form_next (λ c f. cond (c is a_stop) (mark_next f) (cond (c is a_bar) (digit_next f) false)) tt
       (class_at tb text i) (future_at tb text (i + 1)) (ap not e)
       ∙ rw (mark_at_lem text (i + 1), digit_at text (i + 1))
 

@@ -1,13 +1,13 @@
 -- What stands at and from a place of a text, in the rules' words: what reading ahead finds. `Future` and `future` are those of the rules' proofs
 -- (crates/rules/proofs/Sides.antt): inner promises may speak of them, the public one does not. Assumes nothing.
 use Rattle.std.specs.Prelude.{Bool, false, ◌||◌, cond, List, ℕ, ◌+◌, drop, get_or}
-use Rattle.rules.specs.Sorts.{Item, Table, Class, aToJ, otherSmall, capital, aStop, aBar, class, ◌is◌, is_digit, is_ordinal}
+use Rattle.rules.specs.Sorts.{Item, Table, Class, a_to_j, other_small, capital, a_stop, a_bar, class, ◌is◌, is_digit, is_ordinal}
 use Rattle.rules.specs.Rows.{sort_in, items_in}
 use Rattle.rules.proofs.States.{Future}
 use Rattle.rules.proofs.Sides.{future}
 
 abbrev pub is_small : Class → Bool
-is_small c = c is aToJ || c is otherSmall
+is_small c = c is a_to_j || c is other_small
 
 abbrev pub is_capital : Class → Bool
 is_capital c = c is capital
@@ -24,4 +24,4 @@ future_at tb text i = future (items_from tb text i)
 -- a form goes on at a place, behind its digits: with a full stop and º or ª, or with U+2044 and a digit
 unfoldable pub ends_form : Table → List ℕ → ℕ → Bool
 ends_form tb text i =
-    cond (class_at tb text i is aStop) (is_ordinal (class_at tb text (i + 1))) (cond (class_at tb text i is aBar) (is_digit (class_at tb text (i + 1))) false)
+    cond (class_at tb text i is a_stop) (is_ordinal (class_at tb text (i + 1))) (cond (class_at tb text i is a_bar) (is_digit (class_at tb text (i + 1))) false)

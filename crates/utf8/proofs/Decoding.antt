@@ -48,12 +48,12 @@ module _ (bytes lent : List ℕ) where
     mid_on r n some =
         let on : decoded (drop at bytes) ≡ r.point ∷ decoded (drop r.next bytes) =
         decoded_on bytes at r.next some n.next ∙ ap (λ (p : ℕ). p ∷ decoded (drop r.next bytes)) (sym n.point) in
-        let count-on : count + 1 ≡ suc count = omega arith in record {
+        let count_on : count + 1 ≡ suc count = omega arith in record {
           inside = n.inside;
           few = omega (arith, m.few, n.next);
           same = length-set text count r.point ∙ m.same;
           counted = omega (arith, m.counted, ap length on);
-          stored = rw count-on (sym (ap (λ (t : List ℕ). sets text count t) on) ∙ m.stored);
+          stored = rw count_on (sym (ap (λ (t : List ℕ). sets text count t) on) ∙ m.stored);
         }
 
     pub mid_done : length bytes ≤ at → Decoded bytes lent count text

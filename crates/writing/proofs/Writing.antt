@@ -62,7 +62,7 @@ module _ (signs row₀ : List ℕ) where
       -- what it left there is a turn
       pub wid_on : (r : ℕ) (left new : List ℕ) → r ≡ length here → left ≡ laid here (take (length row - n) (drop n row))
           → new ≡ put_mid n (length row - n) row left → Wid signs row₀ new (n + r) (i + 1)
-      wid_on r left new count wrote is-new = subst (λ (x : List ℕ). Wid signs row₀ x (n + r) (i + 1)) (sym is-new) (turn r left count wrote)
+      wid_on r left new count wrote is_new = subst (λ (x : List ℕ). Wid signs row₀ x (n + r) (i + 1)) (sym is_new) (turn r left count wrote)
 
     pub wid_end : length signs ≤ i → (n ≡ length (joined signs)) × (row ≡ laid (joined signs) row₀)
     wid_end l = turn_end row row₀ n (joined (drop i signs)) (joined signs) (joined_end signs i l) m.count m.laid_on

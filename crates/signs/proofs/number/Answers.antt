@@ -40,8 +40,8 @@ L = After-is_lower
 abbrev of-lower : L → D
 of-lower l = l.before.before
 
-lower-is : (l : L) → l.is_lower.result ≡ lower_cell (Y (of-digit (of-lower l)))
-lower-is l = l.is_lower.ensures ∙ ap lower_cell (of-lower l).before.cell_at-second.ensures
+lower_is : (l : L) → l.is_lower.result ≡ lower_cell (Y (of-digit (of-lower l)))
+lower_is l = l.is_lower.ensures ∙ ap lower_cell (of-lower l).before.cell_at-second.ensures
 
 pub returns-then-is_digit : goal.returns-then-is_digit
 returns-then-is_digit c =
@@ -59,7 +59,7 @@ returns-then-is_lower c =
     let l = f.before.before in
     let k = of-lower l in
     let s = of-digit k in
-    let has = sym (lower-is l) ∙ f.before.if-is_lower.true in
+    let has = sym (lower_is l) ∙ f.before.if-is_lower.true in
     c.before.sign-then-is_lower.ensures
     ∙ number_lower s.args.at s.args.opened (word_of (Y s)) (sym (digit_is k) ∙ l.before.if-is_digit.false) has f.inside_number-then-is_lower.result
     (f.inside_number-then-is_lower.ensures ∙ ap (λ (n : ℕ). inside_in (word_of (n / 2))) k.before.cell_at-second.ensures ∙ inside_lowered (Y s) has)
@@ -69,4 +69,4 @@ returns c =
     let l = c.before.before in
     let k = of-lower l in
     let s = of-digit k in
-    number_none s.args.at s.args.opened (word_of (Y s)) (sym (digit_is k) ∙ l.before.if-is_digit.false) (sym (lower-is l) ∙ c.before.if-is_lower.false)
+    number_none s.args.at s.args.opened (word_of (Y s)) (sym (digit_is k) ∙ l.before.if-is_digit.false) (sym (lower_is l) ∙ c.before.if-is_lower.false)

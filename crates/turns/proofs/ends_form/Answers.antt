@@ -6,7 +6,7 @@ use mathlib.Core.List.{List, [], ◌∷◌}
 use Prim.Native.Nat.{ℕ, ◌+◌, ◌<◌, zero-le}
 use Rattle.rules.specs.Castilian.{castilian}
 use Rattle.rules.specs.Cells.{dots}
-use Rattle.rules.specs.Sorts.{class, is_digit_cell, is_digit, is_ordinal, ◌is◌, aStop, aBar}
+use Rattle.rules.specs.Sorts.{class, is_digit_cell, is_digit, is_ordinal, ◌is◌, a_stop, a_bar}
 use Rattle.rules.specs.Rows.{sort_in}
 use borrow.Author.Tests.{ne_eqb}
 use lib.ListN.{length, get_or}
@@ -31,11 +31,11 @@ stop = 0x2e
 abbrev bar : ℕ
 bar = 0x2044
 
-neither : (c : ℕ) → (c ≡ stop → ⊥) → (c ≡ bar → ⊥) → ((class (sort_in castilian c) is aStop) ≡ false) × ((class (sort_in castilian c) is aBar) ≡ false)
+neither : (c : ℕ) → (c ≡ stop → ⊥) → (c ≡ bar → ⊥) → ((class (sort_in castilian c) is a_stop) ≡ false) × ((class (sort_in castilian c) is a_bar) ≡ false)
 unfolding castilian sort_in class is_digit_cell dots
 neither c no_stop no-bar = (
-  known castilian (λ k. k is aStop) (stop ∷ []) 0 0 tt tt tt refl c ∙ told_above (stop ∷ []) 0 0 c (rw (ne_eqb c stop no_stop)) zero-le,
-  known castilian (λ k. k is aBar) (bar ∷ []) 0 0 tt tt tt refl c ∙ told_above (bar ∷ []) 0 0 c (rw (ne_eqb c bar no-bar)) zero-le,
+  known castilian (λ k. k is a_stop) (stop ∷ []) 0 0 tt tt tt refl c ∙ told_above (stop ∷ []) 0 0 c (rw (ne_eqb c stop no_stop)) zero-le,
+  known castilian (λ k. k is a_bar) (bar ∷ []) 0 0 tt tt tt refl c ∙ told_above (bar ∷ []) 0 0 c (rw (ne_eqb c bar no-bar)) zero-le,
 )
 
 -- what stands at the place decides which of the two may go on there, and that the place is one of the text
@@ -43,15 +43,15 @@ module _ (text : List ℕ) (i : ℕ) where
   with-stop : get_or text i 0 ≡ stop → (i < length text) × (is_ordinal (class_at castilian text (i + 1)) ≡ ends_form castilian text i)
   unfolding castilian sort_in class ends_form
   with-stop e =
-      let k : (class_at castilian text i is aStop) ≡ true = ap (λ (n : ℕ). class (sort_in castilian n) is aStop) e in
-      (stands_inside castilian zero_unlisted (λ c. c is aStop) refl text i k, sym (rw k))
+      let k : (class_at castilian text i is a_stop) ≡ true = ap (λ (n : ℕ). class (sort_in castilian n) is a_stop) e in
+      (stands_inside castilian zero_unlisted (λ c. c is a_stop) refl text i k, sym (rw k))
 
   with-bar : get_or text i 0 ≡ bar → (i < length text) × (is_digit (class_at castilian text (i + 1)) ≡ ends_form castilian text i)
   unfolding castilian sort_in class ends_form
   with-bar e =
-      let n : (class_at castilian text i is aStop) ≡ false = ap (λ (n : ℕ). class (sort_in castilian n) is aStop) e in
-      let k : (class_at castilian text i is aBar) ≡ true = ap (λ (n : ℕ). class (sort_in castilian n) is aBar) e in
-      (stands_inside castilian zero_unlisted (λ c. c is aBar) refl text i k, sym (rw (n, k)))
+      let n : (class_at castilian text i is a_stop) ≡ false = ap (λ (n : ℕ). class (sort_in castilian n) is a_stop) e in
+      let k : (class_at castilian text i is a_bar) ≡ true = ap (λ (n : ℕ). class (sort_in castilian n) is a_bar) e in
+      (stands_inside castilian zero_unlisted (λ c. c is a_bar) refl text i k, sym (rw (n, k)))
 
   with-neither : (get_or text i 0 ≡ stop → ⊥) → (get_or text i 0 ≡ bar → ⊥) → false ≡ ends_form castilian text i
   unfolding ends_form
