@@ -39,12 +39,12 @@ AMENDED = [
 # Names that stand several in a line where they are declared (constructors, and cases of one statement), and names of what a proof is given.
 ALSO = """
     a-digit a-hyphen a-lower-zero aBar aComma aDash aHyphen aPercent aStop aToJ allCapitals bar-on breaksPair caps-on count-on digits-on firstDigit
-    firstLower fractionBar freeState higher-is is-before is-behind is-capital is-count is-d is-e is-k is-mixed is-n is-new is-point is-run is-s is-w its-
-    deed its-mode its-point lacksSign low-is lower-is mixed-on not-nought oneCapital ordinalMark otherDigit otherSign otherSmall part-is past-bar past-
-    dash past-feminine past-hyphen past-on past-percent past-point plain-on shows-g some-mark some-point some-run stop-on there-is wasOpen
+    firstLower fractionBar freeState higher-is is-before is-behind is-capital is-count is-d is-e is-k is-mixed is-n is-new is-point is-run is-s is-w
+    its-deed its-mode its-point lacksSign low-is lower-is mixed-on not-nought oneCapital ordinalMark otherDigit otherSign otherSmall part-is past-bar
+    past-dash past-feminine past-hyphen past-on past-percent past-point plain-on shows-g some-mark some-point some-run stop-on there-is wasOpen
 """.split()
 # Of these, those whose new name a definition has already.
-ALSO_AMENDED = {"is-point": "point_is", "is-capital": "capital_is", "past-point": "past_point_lem"}
+ALSO_AMENDED = {"is-point": "point_given", "is-capital": "capital_is", "past-point": "past_point"}
 TOKEN = re.compile(r"[^\s(){}.;,@\"«»`\[\]|]+")
 
 
@@ -94,7 +94,7 @@ def table(found):
         rows[name] = new
     for name in ALSO:
         new = ALSO_AMENDED.get(name, spelled(name))
-        assert new not in taken, (name, new)
+        assert name in ALSO_AMENDED or new not in taken, (name, new)
         rows[name] = new
     return rows
 

@@ -5,7 +5,7 @@ use Rattle.std.specs.Prelude.{true, cond, ◌⊎◌, ◌≡◌, ℕ, ◌+◌, �
 use Rattle.rules.specs.Sorts.{Class, a_bar, ◌is◌}
 use Rattle.rules.specs.Signs.{Way, bare, one_capital, all_capitals, separated, first_digit, first_lower, lower, denominator, ordinal_mark, inside}
 use Rattle.rules.specs.Places.{lacks_sign, breaks_pair, outside_form, shares_cells, Outcome, fault, silent, sign}
-use Rattle.rules.proofs.States.{Past, free, lone, caps, mixed, plain_on, past_on, under_one, under, past_bar, past_stop, past_point_lem, past-dash, past_hyphen, past_feminine, past_percent, Future}
+use Rattle.rules.proofs.States.{Past, free, lone, caps, mixed, plain_on, past_on, under_one, under, past_bar, past_stop, past_point, past_dash, past_hyphen, past_feminine, past_percent, Future}
 use Rattle.rules.proofs.Sides.{caps_next, mixed_next, form_next, digit_next, mark_next}
 use Rattle.entries.specs.States as state
 use Rattle.deeds.specs.Acts as act
@@ -23,8 +23,8 @@ stage_at under_one f = state.under
 stage_at under f = state.under
 stage_at past_bar f = state.barred
 stage_at past_stop f = cond (mark_next f) state.ordinal (cond (digit_next f) state.number state.guarded)
-stage_at past_point_lem f = cond (digit_next f) state.number state.guarded
-stage_at past-dash f = state.dashed
+stage_at past_point f = cond (digit_next f) state.number state.guarded
+stage_at past_dash f = state.dashed
 stage_at past_hyphen f = state.hyphened
 stage_at past_feminine f = state.guarded
 stage_at past_percent f = state.free

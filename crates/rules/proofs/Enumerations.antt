@@ -10,7 +10,7 @@ use Rattle.rules.proofs.Finite.{Finite, All, all}
 use Rattle.rules.specs.Sorts.{Class, a_to_j, other_small, capital, one, other_digit, a_stop, a_comma, a_hyphen, a_dash, a_bar, masculine, feminine, a_percent, other_sign, unlisted, class_number}
 use Rattle.rules.specs.Signs.{Way, bare, one_capital, all_capitals, separated, first_digit, first_lower, lower, denominator, ordinal_mark, inside}
 use Rattle.rules.specs.Places.{Cause, lacks_sign, breaks_pair, outside_form, shares_cells}
-use Rattle.rules.proofs.States.{Past, free, lone, caps, mixed, plain_on, past_on, under_one, under, past_bar, past_stop, past_point_lem, past-dash, past_hyphen, past_feminine, past_percent, Future, rest, caps_on, mixed_on, digits_on, form_on, bar_on, stop_on, mark_on, Mode, Free, Lone, Mixed, Whole1, Under1, End, Hyphen, Fem, Percent, Owing, Dash, Whole2, Num, Low, Under, Mid, Kind, a_digit, a_hyphen, a_lower_zero}
+use Rattle.rules.proofs.States.{Past, free, lone, caps, mixed, plain_on, past_on, under_one, under, past_bar, past_stop, past_point, past_dash, past_hyphen, past_feminine, past_percent, Future, rest, caps_on, mixed_on, digits_on, form_on, bar_on, stop_on, mark_on, Mode, Free, Lone, Mixed, Whole1, Under1, End, Hyphen, Fem, Percent, Owing, Dash, Whole2, Num, Low, Under, Mid, Kind, a_digit, a_hyphen, a_lower_zero}
 
 -- Class
 abbrev pub class_list : List Class
@@ -146,8 +146,8 @@ cause_same x y t =
 -- Past
 abbrev pub past_list : List Past
 past_list =
-    free ∷ lone ∷ caps ∷ mixed ∷ plain_on ∷ past_on ∷ under_one ∷ under ∷ past_bar ∷ past_stop ∷ past_point_lem
-    ∷ past-dash ∷ past_hyphen ∷ past_feminine ∷ past_percent ∷ []
+    free ∷ lone ∷ caps ∷ mixed ∷ plain_on ∷ past_on ∷ under_one ∷ under ∷ past_bar ∷ past_stop ∷ past_point ∷ past_dash
+    ∷ past_hyphen ∷ past_feminine ∷ past_percent ∷ []
 
 pub past_every : (f : Past → Bool) → All f past_list → (x : Past) → T (f x)
 past_every f a free = a.0
@@ -160,8 +160,8 @@ past_every f a under_one = a.1.1.1.1.1.1.0
 past_every f a under = a.1.1.1.1.1.1.1.0
 past_every f a past_bar = a.1.1.1.1.1.1.1.1.0
 past_every f a past_stop = a.1.1.1.1.1.1.1.1.1.0
-past_every f a past_point_lem = a.1.1.1.1.1.1.1.1.1.1.0
-past_every f a past-dash = a.1.1.1.1.1.1.1.1.1.1.1.0
+past_every f a past_point = a.1.1.1.1.1.1.1.1.1.1.0
+past_every f a past_dash = a.1.1.1.1.1.1.1.1.1.1.1.0
 past_every f a past_hyphen = a.1.1.1.1.1.1.1.1.1.1.1.1.0
 past_every f a past_feminine = a.1.1.1.1.1.1.1.1.1.1.1.1.1.0
 past_every f a past_percent = a.1.1.1.1.1.1.1.1.1.1.1.1.1.1.0
@@ -180,8 +180,8 @@ past_number under_one = 6
 past_number under = 7
 past_number past_bar = 8
 past_number past_stop = 9
-past_number past_point_lem = 10
-past_number past-dash = 11
+past_number past_point = 10
+past_number past_dash = 11
 past_number past_hyphen = 12
 past_number past_feminine = 13
 past_number past_percent = 14
@@ -197,8 +197,8 @@ past_back_number under_one = refl
 past_back_number under = refl
 past_back_number past_bar = refl
 past_back_number past_stop = refl
-past_back_number past_point_lem = refl
-past_back_number past-dash = refl
+past_back_number past_point = refl
+past_back_number past_dash = refl
 past_back_number past_hyphen = refl
 past_back_number past_feminine = refl
 past_back_number past_percent = refl

@@ -13,7 +13,7 @@ use Rattle.rules.specs.Signs.{Way, bare, one_capital, all_capitals, separated, f
 use Rattle.rules.specs.Places.{Outcome, fault, silent, sign}
 use Rattle.rules.proofs.Finite.{and_both, implies, is_true_of_eqb, every, hold, holds, Hold, every3, at3, every4, at4}
 use Rattle.rules.proofs.Sides.{rule, look, after, ◌was◌, ◌sees◌, caps_next, mixed_next, digit_next, mark_next, form_next}
-use Rattle.rules.proofs.States.{Past, free, lone, caps, mixed, plain_on, past_on, under_one, under, past_bar, past_stop, past_point_lem, past-dash, past_hyphen, past_feminine, past_percent, Future, rest, digits_on, form_on, bar_on, stop_on, mark_on, Mode, Free, Lone, Owing, Mixed, Whole1, Whole2, Num, Low, Under1, Under, Mid, End, Hyphen, Dash, Fem, Percent}
+use Rattle.rules.proofs.States.{Past, free, lone, caps, mixed, plain_on, past_on, under_one, under, past_bar, past_stop, past_point, past_dash, past_hyphen, past_feminine, past_percent, Future, rest, digits_on, form_on, bar_on, stop_on, mark_on, Mode, Free, Lone, Owing, Mixed, Whole1, Whole2, Num, Low, Under1, Under, Mid, End, Hyphen, Dash, Fem, Percent}
 use Rattle.rules.proofs.Enumerations.{classes, ways, way_number, pasts, futures, modes, mode_number}
 
 infix 40 ◌by◌
@@ -123,8 +123,8 @@ mode_at under_one f = Under1
 mode_at under f = Under
 mode_at past_bar f = Low
 mode_at past_stop f = cond (mark_next f) Low (cond (digit_next f) Mid End)
-mode_at past_point_lem f = cond (digit_next f) Mid End
-mode_at past-dash f = Dash
+mode_at past_point f = cond (digit_next f) Mid End
+mode_at past_dash f = Dash
 mode_at past_hyphen f = Hyphen
 mode_at past_feminine f = Fem
 mode_at past_percent f = Percent

@@ -15,7 +15,7 @@ use Rattle.rules.specs.Pairs.{Opens, mark_of, mark_fits, fits, open_after}
 use Rattle.rules.specs.Places.{Place, Faulty, without_sign, against_pair_rule, out_of_form, sharing_cells, class_at, side_of, near, near_of, class_of, Cause, written, lacks_sign, breaks_pair, outside_form, shares_cells, has_no_sign, is_outside_form, would_share_cells, Outcome, fault, silent, sign, outcome}
 use Rattle.rules.specs.Rows.{at, outcome_at, fits_at}
 use Rattle.rules.proofs.Finite.{false_of, nothing, every2, at2, every3, at3, beq_same, Hold, hold, holds}
-use Rattle.rules.proofs.States.{Past, free, past_on, past_bar, past_stop, past-dash, past_hyphen, past_feminine, Future, rest}
+use Rattle.rules.proofs.States.{Past, free, past_on, past_bar, past_stop, past_dash, past_hyphen, past_feminine, Future, rest}
 use Rattle.rules.proofs.Sides.{◌was◌, in_run, in_mixed, is_in_denominator, in_digits, at_point, caps_next, mixed_next, digit_next, mark_next, form_next, rule, look, after, future}
 use Rattle.rules.proofs.Enumerations.{classes, pasts, futures, way_same, cause_number, cause_same}
 use Rattle.rules.proofs.Machine.{◌by◌}
@@ -37,7 +37,7 @@ view p f =
       after_bar = p was past_bar;
       after_feminine = p was past_feminine;
       after_hyphen = p was past_hyphen;
-      after_dash = p was past-dash;
+      after_dash = p was past_dash;
       after_point = at_point p;
       after_ordinal_stop = p was past_stop;
       in_denominator = is_in_denominator p || p was past_bar;
@@ -154,7 +154,7 @@ near_is b a i =
       after_bar = next_is (λ c. c is a_bar) (λ p. p was past_bar) tt refl b i;
       after_feminine = next_is (λ c. c is feminine) (λ p. p was past_feminine) tt refl b i;
       after_hyphen = next_is (λ c. c is a_hyphen) (λ p. p was past_hyphen) tt refl b i;
-      after_dash = next_is (λ c. c is a_dash) (λ p. p was past-dash) tt refl b i;
+      after_dash = next_is (λ c. c is a_dash) (λ p. p was past_dash) tt refl b i;
       after_point = point_is b i;
       after_ordinal_stop = stop_is b i;
       in_denominator = under_is b i;

@@ -11,7 +11,7 @@ use Rattle.rules.specs.Signs.{Way, bare, one_capital, all_capitals, separated, f
 use Rattle.rules.specs.Pairs.{Opens, fits, turn, closed}
 use Rattle.rules.specs.Places.{class_at, lacks_sign, breaks_pair, outside_form, shares_cells, Outcome, fault, silent, sign}
 use Rattle.rules.specs.Rows.{Verdict, good, bad, judge}
-use Rattle.rules.proofs.States.{Past, free, lone, caps, mixed, plain_on, past_on, under_one, under, past_bar, past_stop, past_point_lem, past-dash, past_hyphen, past_feminine, past_percent, Future, rest, caps_on, mixed_on, digits_on, form_on, bar_on, stop_on, mark_on}
+use Rattle.rules.proofs.States.{Past, free, lone, caps, mixed, plain_on, past_on, under_one, under, past_bar, past_stop, past_point, past_dash, past_hyphen, past_feminine, past_percent, Future, rest, caps_on, mixed_on, digits_on, form_on, bar_on, stop_on, mark_on}
 use Rattle.rules.proofs.Enumerations.{past_number, future_number}
 
 infix 40 ◌was◌
@@ -37,7 +37,7 @@ in_digits p = in_number p || is_in_denominator p
 
 -- directly after a point or comma of a number
 abbrev pub at_point : Past → Bool
-at_point p = p was past_stop || p was past_point_lem
+at_point p = p was past_stop || p was past_point
 
 infix 40 ◌sees◌
 abbrev pub ◌sees◌ : Future → Future → Bool
@@ -89,10 +89,10 @@ after p other_small = mixed
 after p capital = cond (in_mixed p) mixed (cond (in_run p) caps lone)
 after p one = past_after_digit p under_one
 after p other_digit = past_after_digit p under
-after p a_stop = cond (p was plain_on) past_stop (cond (p was past_on) past_point_lem free)
-after p a_comma = cond (in_number p) past_point_lem free
+after p a_stop = cond (p was plain_on) past_stop (cond (p was past_on) past_point free)
+after p a_comma = cond (in_number p) past_point free
 after p a_hyphen = past_hyphen
-after p a_dash = past-dash
+after p a_dash = past_dash
 after p a_bar = past_bar
 after p masculine = free
 after p feminine = past_feminine
@@ -123,7 +123,7 @@ rule p one f = cond (p was past_bar && not (digit_next f)) (fault shares_cells) 
 rule p other_digit f = sign (rule_digit p f)
 rule p a_stop f = cond (p was plain_on && mark_next f) silent (sign (rule_point p f))
 rule p a_comma f = sign (rule_point p f)
-rule p a_hyphen f = cond (p was past_hyphen || p was past-dash) (fault shares_cells) (sign bare)
+rule p a_hyphen f = cond (p was past_hyphen || p was past_dash) (fault shares_cells) (sign bare)
 rule p a_dash f = cond (p was past_hyphen) (fault shares_cells) (sign bare)
 rule p a_bar f = cond (p was plain_on && digit_next f) silent (fault outside_form)
 rule p masculine f = cond (p was past_stop) (sign ordinal_mark) (fault outside_form)

@@ -11,7 +11,7 @@ pub data Past : Type 0 where
   -- digits: plain; past a point or comma; a denominator that is 1 so far; any other denominator
   plain_on past_on under_one under : Past
   -- directly before: U+2044; a full stop after plain digits; another point or comma of a number; U+2014; a hyphen; ª; %
-  past_bar past_stop past_point_lem past-dash past_hyphen past_feminine past_percent : Past
+  past_bar past_stop past_point past_dash past_hyphen past_feminine past_percent : Past
 
 -- what stands after a place: nothing that a rule asks for; a run of capitals; one with a small letter; digits; digits of a form; U+2044 and a
 -- digit; a full stop and º or ª; º or ª

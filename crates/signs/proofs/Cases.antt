@@ -460,7 +460,7 @@ either true b t = inl tt
 either false b t = inr t
 
 abbrev told_as : ℕ → ℕ → ℕ → ℕ → ℕ → ℕ → Bool
-told_as d p m its-deed its_point its_mode = eqb d its-deed && (eqb p its_point && eqb m its_mode)
+told_as d p m its_deed its_point its_mode = eqb d its_deed && (eqb p its_point && eqb m its_mode)
 
 abbrev run_told : ℕ → ℕ → ℕ → Bool
 run_told m w p =
@@ -477,19 +477,19 @@ unfolding deeds words run_of home_of
 runs_right = tt
 
 module _ (row : Row) (at m o p run : ℕ) (small : m < mode_count) (inside : at < length row) (low : get_or row at 0 ≤ last_cell) (is_run : run ≡ run_of m)
-    (some_run : run < no_run) (point_is : p ≡ run_point (word_of (get_or row at 0)) run) (a_point : p ≡ no_point → ⊥) where
+    (some_run : run < no_run) (point_given : p ≡ run_point (word_of (get_or row at 0)) run) (a_point : p ≡ no_point → ⊥) where
   abbrev w : ℕ
   w = word_of (cell_of row at)
 
   point_is : p ≡ run_point (word_of (cell_of row at)) (run_of m)
-  point_is = point_is ∙ ap (λ (n : ℕ). run_point (word_of n) run) (cell_low row at inside low) ∙ ap (run_point (word_of (cell_of row at))) is_run
+  point_is = point_given ∙ ap (λ (n : ℕ). run_point (word_of n) run) (cell_low row at inside low) ∙ ap (run_point (word_of (cell_of row at))) is_run
 
-  is_told : (its-deed its_point its_mode : ℕ) → T (told_as (deed_of m (class_in (word_of (cell_of row at)))) (run_point (word_of (cell_of row at)) (run_of m)) (home_of m) its-deed its_point its_mode)
-      → (deed_of m (class_in (word_of (cell_of row at))) ≡ its-deed) × (p ≡ its_point) × (home_of m ≡ its_mode)
-  is_told its-deed its_point its_mode t =
-      let a = both (eqb (deed_of m (class_in (word_of (cell_of row at)))) its-deed) (eqb (run_point (word_of (cell_of row at)) (run_of m)) its_point && eqb (home_of m) its_mode) t in
+  is_told : (its_deed its_point its_mode : ℕ) → T (told_as (deed_of m (class_in (word_of (cell_of row at)))) (run_point (word_of (cell_of row at)) (run_of m)) (home_of m) its_deed its_point its_mode)
+      → (deed_of m (class_in (word_of (cell_of row at))) ≡ its_deed) × (p ≡ its_point) × (home_of m ≡ its_mode)
+  is_told its_deed its_point its_mode t =
+      let a = both (eqb (deed_of m (class_in (word_of (cell_of row at)))) its_deed) (eqb (run_point (word_of (cell_of row at)) (run_of m)) its_point && eqb (home_of m) its_mode) t in
       let b = both (eqb (run_point (word_of (cell_of row at)) (run_of m)) its_point) (eqb (home_of m) its_mode) a.1 in
-      (eqb→eq (deed_of m (class_in (word_of (cell_of row at)))) its-deed a.0, point_is ∙ eqb→eq (run_point (word_of (cell_of row at)) (run_of m)) its_point b.0, eqb→eq (home_of m) its_mode b.1)
+      (eqb→eq (deed_of m (class_in (word_of (cell_of row at)))) its_deed a.0, point_is ∙ eqb→eq (run_point (word_of (cell_of row at)) (run_of m)) its_point b.0, eqb→eq (home_of m) its_mode b.1)
 
   pub run_step : variant.Sign no_point p (at + 1) (home_of m) o ≡ step_at row at m o
   run_step =
