@@ -8,7 +8,7 @@
  *
  * example.c, beside this file, is a program to begin with.
  *
- * The library calls memset of the C library and nothing else. It allocates nothing, keeps nothing between calls and may be called from
+ * The library calls memcpy and memset of the C library and nothing else. It allocates nothing, keeps nothing between calls and may be called from
  * several threads at once.
  *
  * A cell is a byte of 0 to 63: dot 1 counts 1, dot 2 counts 2, dot 3 counts 4, dot 4 counts 8, dot 5 counts 16, dot 6 counts 32; the blank cell
