@@ -9,9 +9,8 @@ use Prim.Native.Nat.{ℕ, zero, suc, ◌+◌, ◌-◌, ◌*◌, ◌≤◌, ◌<�
 use native.Mathlib.Omega.{arith}
 use native.Mathlib.Nat.{add-zero}
 use lib.Dec.{eqb, leb}
-use lib.ListN.{length, take, drop, get_or, length-append}
+use lib.ListN.{length, drop, get_or, length-append}
 use borrow.Author.Tests.{eq-eqb, ne_eqb, le-leb, lt-leb}
-use borrow.Rule.Slice.PartMut.{put_mid}
 use Rattle.rules.specs.Cells.{Row}
 use Rattle.rules.specs.Signs.{Sign, print_of, cells_of}
 use Rattle.rules.specs.Screen.{sign_at}
@@ -34,7 +33,7 @@ use Rattle.walks.specs.Walks.{Wrote, Room, RoomLeft, room_left, Strides, strides
 use Rattle.walks.specs.declared.Walked.{Walked}
 use Rattle.walks.specs.declared.Walked.TheVariants.{On, Nowhere}
 use Rattle.readings.proofs.Print.{points_width, points_one}
-use Rattle.walks.proofs.Writing.{wrote_none, wrote_on, wrote_part, wrote_full}
+use Rattle.walks.proofs.Writing.{wrote_none, wrote_on, wrote_full}
 
 -- SIGNS JOINED
 pub print_join : (ss xs : List Sign) → print_of (ss ++ xs) ≡ print_of ss ++ print_of xs
@@ -203,12 +202,12 @@ module _ {row : Row} {stop from m₀ o₀ n₀ m o n at : ℕ} {t₀ t : List �
   mid_lost w (goes_nowhere j within cells none_left same) e = (none_left, same)
 
   -- a stretch, and one that is only counted
-  pub mid_stride : n ≤ length t → {new : List ℕ} (w : Walked) → Strides row stop at m o 0 (take (length t - n) (drop n t)) new w → {k n' u c : ℕ} → w ≡ On k n' u c
-      → Mid row stop from m₀ o₀ n₀ t₀ (put_mid n (length t - n) t new) n' u (n + c) k × (at < stop → at < k)
-  mid_stride room w (strides_on ss j m' v d leads further count wrote) {k} e =
+  pub mid_stride : {t' : List ℕ} (w : Walked) → Strides row stop at m o n t t' w → {k n' u c : ℕ} → w ≡ On k n' u c
+      → Mid row stop from m₀ o₀ n₀ t₀ t' n' u c k × (at < stop → at < k)
+  mid_stride w (strides_on ss j m' v d leads further count wrote) {k} e =
       let f : j ≡ k = cc in
-      (mid_more (On j m' v (n + d)) (runs_on ss j m' v (n + d) leads (omega (arith, count)) (wrote_part t n _ (print_of ss) room wrote)) cc, λ h. omega (arith, further h, f))
-  mid_stride room w (strides_nowhere j within cells none_left same) e = let z : ◌≡◌ {A = ℕ} 0 1 = cc in absurd (omega arith)
+      (mid_more w (runs_on ss j m' v d leads count wrote) e, λ h. omega (arith, further h, f))
+  mid_stride w (strides_nowhere j within cells none_left same) e = let z : ◌≡◌ {A = ℕ} 0 1 = cc in absurd (omega arith)
 
   pub mid_unwritten : length t ≤ n → (w : Walked) → Strides row stop at m o 0 [] [] w → {k n' u c : ℕ} → w ≡ On k n' u c
       → Mid row stop from m₀ o₀ n₀ t₀ t n' u (n + c) k × (at < stop → at < k)

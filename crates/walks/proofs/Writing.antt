@@ -1,16 +1,14 @@
--- What is written to a lent text, if there is room (`Wrote`). In order: nothing; one print behind another; to the part behind what is counted; stores; the ends of `put`.
--- Assumes nothing.
+-- What is written to a lent text, if there is room (`Wrote`). In order: nothing; one print behind another; stores; the ends of `put`. Assumes nothing.
 use mathlib.Core.Path.{◌≡◌, refl, sym, ap, ◌∙◌}
 use mathlib.Core.List.{List, [], ◌∷◌, ◌++◌, append_assoc}
 use mathlib.Core.Logic.{◌⊎◌, ⊎_elim}
-use Prim.Native.Nat.{ℕ, suc, ◌+◌, ◌-◌, ◌≤◌, ◌<◌}
+use Prim.Native.Nat.{ℕ, suc, ◌+◌, ◌≤◌, ◌<◌}
 use native.Mathlib.Omega.{arith}
-use lib.ListN.{length, set, take, drop, length-append, length-set, length-take, length-drop}
+use lib.ListN.{length, set, take, drop, length-append, length-set}
 use lib.Seq.{sets, length-sets, sets-eq, drop-drop}
-use borrow.Rule.Slice.PartMut.{put_mid, same_len_mid}
 use Rattle.rules.specs.Cells.{Text}
 use Rattle.rows.specs.Laid.{laid}
-use Rattle.rows.proofs.Laid.{laid_none, laid_step, laid_part}
+use Rattle.rows.proofs.Laid.{laid_none, laid_step}
 use Rattle.readings.specs.Print.{points}
 use Rattle.walks.specs.Walks.{Wrote}
 use Rattle.readings.proofs.Print.{points_one, points_two}
@@ -31,17 +29,6 @@ wrote_on t u v n m p q a e b = (
       let g : v ≡ take m u ++ laid q (drop m u) = b.1 (omega (arith, length-append p q, a.0)) in
       g ∙ ap (λ (i : ℕ). take i u ++ laid q (drop i u)) e
       ∙ ap (λ (x : List ℕ). take (n + length p) x ++ laid q (drop (n + length p) x)) f ∙ laid_step t n p q (omega (arith, length-append p q)),
-)
-
--- what is lent of a text is what stands behind n elements, `&mut t[n..]`
-pub part_length : (t : List ℕ) (n : ℕ) → length (take (length t - n) (drop n t)) ≡ length t - n
-part_length t n = simp (length-take, length-drop) (omega arith)
-
-pub wrote_part : (t : List ℕ) (n : ℕ) (new : List ℕ) (p : Text) → n ≤ length t → Wrote (take (length t - n) (drop n t)) new 0 p
-    → Wrote t (put_mid n (length t - n) t new) n p
-wrote_part t n new p h w = (
-  same_len_mid n (length t - n) t new w.0,
-  λ room. laid_part t n p new room (w.1 (omega (arith, part_length t n, room))),
 )
 
 -- STORES one behind another lay a print, if there is room

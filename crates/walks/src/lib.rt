@@ -233,7 +233,7 @@ fn limit_behind(
 
 // "each step gives the print of the next sign and the place after it." From a place, where a sign starts, with what the signs before it leave (`begun` is the
 // mode, `unclosed` are the open pairs), as long as the next sign starts before the place `stop` and there is room for what is read: so of room nothing is asked at each
-// sign. The print is written from the first element on, and so it is counted. Behind some signs more may follow alike, and those are read at once. (Behind most
+// sign. The print is written behind the code points that are counted. Behind some signs more may follow alike, and those are read at once. (Behind most
 // signs none may: their modes are the lowest.)
 fn stretch(
     row: &[u8],
@@ -242,15 +242,16 @@ fn stretch(
     begun: usize,
     unclosed: usize,
     text: &mut [u32],
+    counted: usize,
 ) -> Walked
-    requires { (length row.now ≤ longest_row) × (from ≤ length row.now) × (stop ≤ length row.now) × (begun < mode_count) × (unclosed < open_states) × (length text.old ≤ longest_row) × (1 ≤ length text.old) }
-    ensures { Strides row.now stop from begun unclosed 0 text.old text.new result }
+    requires { (length row.now ≤ longest_row) × (from ≤ length row.now) × (stop ≤ length row.now) × (begun < mode_count) × (unclosed < open_states) × (counted ≤ 2 * from) × (length text.old ≤ longest_row) × (counted < length text.old) }
+    ensures { Strides row.now stop from begun unclosed counted text.old text.new result }
 {
     let mut mode: usize = begun;
     let mut opened: usize = unclosed;
-    let mut count: usize = 0;
+    let mut count: usize = counted;
     let mut at: usize = from;
-    let mut limit: usize = limit_of(from, stop, text.len(), 0);
+    let mut limit: usize = limit_of(from, stop, text.len(), counted);
     while at < limit {
         let word = signs::word_of(row[at]);
         if signs::is_usual(word, mode) {
@@ -313,17 +314,16 @@ fn stretch(
 // So many code points are read at once where nothing is written.
 const SCRAP: usize = 128;
 
-// A stretch that nothing is written of.
+// A stretch that nothing is written of; it is counted from 0 on.
 fn unwritten(row: &[u8], from: usize, stop: usize, begun: usize, unclosed: usize) -> Walked
     requires { (length row.now ≤ longest_row) × (from ≤ length row.now) × (stop ≤ length row.now) × (begun < mode_count) × (unclosed < open_states) }
     ensures { Strides row.now stop from begun unclosed 0 [] [] result }
 {
     let mut scrap = [NO_POINT; SCRAP];
-    stretch(row, from, stop, begun, unclosed, &mut scrap)
+    stretch(row, from, stop, begun, unclosed, &mut scrap, 0)
 }
 
-// A walk up to the place `stop`, stretch by stretch: each is lent what stands behind the code points that are counted. Where there is no room any more, what is read is only
-// counted.
+// A walk up to the place `stop`, stretch by stretch. Where there is no room any more, what is read is only counted.
 pub fn walk(
     row: &[u8],
     from: usize,
@@ -342,19 +342,19 @@ pub fn walk(
     let mut at: usize = from;
     while at < stop {
         if count < text.len() {
-            let found = stretch(row, at, stop, mode, opened, &mut text[count..]);
+            let found = stretch(row, at, stop, mode, opened, text, count);
             let Walked::On {
                 at: next,
                 mode: mode_next,
                 opened: opened_next,
-                count: written,
+                count: count_next,
             } = found
             else {
                 return found;
             };
             mode = mode_next;
             opened = opened_next;
-            count = count + written;
+            count = count_next;
             at = next;
         } else {
             let found = unwritten(row, at, stop, mode, opened);

@@ -10,7 +10,7 @@ abbrev Joined1 : Type 0
 Joined1 = lts.Joined1 reads.Pre reads.Post
 
 some-cells : (c : Joined1) → 1 ≤ c.if-counted-room.part
-some-cells c = ⊎_elim (λ w. omega (arith, w.if-counted-room.true, w.part_is)) (λ w. omega (arith, w.part_is)) c.if-counted-room.branch-raw
+some-cells c = ⊎_elim (λ w. omega (arith, w.if-counted-room.true, w.part-is)) (λ w. omega (arith, w.part-is)) c.if-counted-room.branch-raw
 
 pub returns : goal.returns
 returns c =

@@ -4,7 +4,7 @@ use mathlib.Core.Path.{◌≡◌, sym, ap, ◌∙◌}
 use mathlib.Core.List.{List}
 use mathlib.Core.Logic.{◌⊎◌, inl, inr, ⊎_elim}
 use mathlib.Core.Option.{none}
-use Prim.Native.Nat.{ℕ, ◌-◌, ◌≤◌, ◌<◌, zero-le}
+use Prim.Native.Nat.{ℕ, ◌-◌, ◌≤◌, ◌<◌}
 use native.Mathlib.Omega.{arith}
 use lib.ListN.{length, drop}
 use Rattle.readings.specs.Fields.{cell_of}
@@ -167,7 +167,7 @@ turn2 c =
 roomy : (i : I) → (i.before.loop-at.count ≤ most_points) × (i.before.loop-at.count < length i.before.loop-at.text)
 roomy i =
     let l = i.before in
-    mid_put l.loop-at.invariant.0 (start l).requires.0 zero-le l.loop-at.limit l.loop-at.invariant.2 i.loop-at-test.true
+    mid_put l.loop-at.invariant.0 (start l).requires.0 (start l).requires.5 l.loop-at.limit l.loop-at.invariant.2 i.loop-at-test.true
 
 -- behind a turn something is read
 onward : (l : L) {k : ℕ} → l.loop-at.at < k → (start l).args.from < k
@@ -182,16 +182,16 @@ stuck i e =
 pub limit_of-limit-requires : goal.limit_of-limit-requires
 limit_of-limit-requires c =
     let s = c.before.before.before in
-    (omega (arith, s.requires.6), omega (arith, s.requires.0, s.requires.1), s.requires.5)
+    (omega (arith, s.requires.7), omega (arith, s.requires.0, s.requires.1), s.requires.6)
 
 pub loop-at-init : goal.loop-at-init
 loop-at-init c =
     let s = c.before.before.before.before in
     let e = c.before.limit_of-limit.ensures in (
-      mid_start s.args.row.now s.args.stop s.args.from s.args.begun s.args.unclosed 0 s.args.text.now s.requires.1 s.requires.3 s.requires.4,
+      mid_start s.args.row.now s.args.stop s.args.from s.args.begun s.args.unclosed s.args.counted s.args.text.now s.requires.1 s.requires.3 s.requires.4,
       e.0,
       e.1,
-      λ h. inr (e.2 h s.requires.6),
+      λ h. inr (e.2 h s.requires.7),
     )
 
 pub bounds-row-at : goal.bounds-row-at
@@ -256,7 +256,7 @@ j-of p = (lts.walk_of-After-known_told2 tie.the-claims reads.Pre reads.Post goal
 mid2 : (p : P) → let k = j-of p in
     let l = at-w (of-j k) in
     let s = start l in
-    Mid (row l) s.args.stop s.args.from s.args.begun s.args.unclosed 0 s.args.text.now p.put-count-else-is_usual.new.text (mode-after2 k) (opened-after2 k) p.put-count-else-is_usual.result (next2 k)
+    Mid (row l) s.args.stop s.args.from s.args.begun s.args.unclosed s.args.counted s.args.text.now p.put-count-else-is_usual.new.text (mode-after2 k) (opened-after2 k) p.put-count-else-is_usual.result (next2 k)
 mid2 p =
     let k = j-of p in
     mid_on (at-w (of-j k)).loop-at.invariant.0 (turn2 k) (before-stop (in-w (of-j k))) p.put-count-else-is_usual.ensures
@@ -271,7 +271,7 @@ limit_behind-limit-requires c =
       l.loop-at.invariant.1,
       omega (arith, l.loop-at.invariant.2, i.loop-at-test.true, t.forward, p.put-count-else-is_usual.ensures.0, (points_width (lead2 k) (point2 k)).1, (mid2 p).wrote.0),
       omega (arith, t.within, (start l).requires.0),
-      omega (arith, (mid2 p).wrote.0, (start l).requires.5),
+      omega (arith, (mid2 p).wrote.0, (start l).requires.6),
       λ e. omega (arith, l.loop-at.invariant.2, t.forward, p.put-count-else-is_usual.ensures.0, ap length (points_one (lead2 k) (point2 k) e), (mid2 p).wrote.0),
     )
 
@@ -289,7 +289,7 @@ alike-requires c =
     let l = at-w (of-j (j-of p)) in
     let m = mid2 p in
     let e = b.limit_behind-limit.ensures in
-    ((start l).requires.0, m.leads.within, omega (arith, e.0, (start l).requires.2), m.leads.mode, m.leads.opens, mid_few m zero-le, e.1)
+    ((start l).requires.0, m.leads.within, omega (arith, e.0, (start l).requires.2), m.leads.mode, m.leads.opens, mid_few m (start l).requires.5, e.1)
 
 -- they always come to a place
 somewhere : (c : After-enum_told3) → ⊥

@@ -11,7 +11,7 @@ use Rattle.walks.proofs.stretch.Given as goal
 -- there is room for what is read, and something is read
 abbrev pub invariant-loop-at : goal.invariant-loop-at
 invariant-loop-at l =
-    Mid l.row l.stop l.from l.begun l.unclosed 0 l.initial.text l.text l.mode l.opened l.count l.at × (l.limit ≤ l.stop) × Room l.limit l.at l.count (length l.initial.text)
+    Mid l.row l.stop l.from l.begun l.unclosed l.counted l.initial.text l.text l.mode l.opened l.count l.at × (l.limit ≤ l.stop) × Room l.limit l.at l.count (length l.initial.text)
     × (l.from < l.stop → (l.from < l.at) ⊎ (l.from < l.limit))
 
 abbrev pub decreases-loop-at : goal.decreases-loop-at

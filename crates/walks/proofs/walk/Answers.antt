@@ -1,12 +1,8 @@
 -- `walk`: between two stretches, what was read of the part so far, its count and what is written (`Mid`). A stretch is more signs, whether it is written
 -- (`mid_stride`) or only counted (`mid_unwritten`). The measure is what is left of the row. Assumes nothing.
-use mathlib.Core.Path.{◌≡◌, refl}
-use mathlib.Core.List.{List}
-use Prim.Native.Nat.{ℕ, ◌+◌, ◌-◌, ◌<◌}
+use mathlib.Core.Path.{refl}
+use Prim.Native.Nat.{◌+◌, ◌-◌, ◌<◌}
 use native.Mathlib.Omega.{arith}
-use lib.ListN.{length, take, drop}
-use borrow.Rule.Slice.PartMut.{put_mid, same_len_mid}
-use Rattle.walks.proofs.Writing.{part_length}
 use Rattle.walks.proofs.Walking.{Mid, mid_start, mid_few, mid_stride, mid_unwritten, mid_strayed, mid_end}
 use Rattle.walks.proofs.walk.Goals as goal
 use Rattle.walks.proofs.walk.Lts as lts
@@ -47,17 +43,6 @@ S = After-stretch
 abbrev at-s : S → L
 at-s s = s.before.before.before.before
 
--- the text, with what the stretch left of the part that it was lent
-abbrev part : S → List ℕ
-part s = s.stretch-found.new.text
-
-abbrev text : S → List ℕ
-text s = let l = at-s s in put_mid l.loop-at.count (length l.loop-at.text - l.loop-at.count) l.loop-at.text (part s)
-
-long-as-part : (s : S) → let l = at-s s in length (part s) ≡ length (take (length l.loop-at.text - l.loop-at.count) (drop l.loop-at.count l.loop-at.text))
-    → length (text s) ≡ length l.loop-at.text
-long-as-part s e = let l = at-s s in same_len_mid l.loop-at.count (length l.loop-at.text - l.loop-at.count) l.loop-at.text (part s) e
-
 abbrev U : Type 0
 U = After-unwritten
 
@@ -75,8 +60,7 @@ stretch-found-requires c =
     let l = t.before.before in
     let s = start l in
     let m = l.loop-at.invariant in
-    let p = part_length l.loop-at.text l.loop-at.count in
-    (s.requires.0, m.leads.within, s.requires.2, m.leads.mode, m.leads.opens, omega (arith, p, m.wrote.0, s.requires.6), omega (arith, p, t.if-count-text.true))
+    (s.requires.0, m.leads.within, s.requires.2, m.leads.mode, m.leads.opens, mid_few m s.requires.5, omega (arith, m.wrote.0, s.requires.6), t.if-count-text.true)
 
 -- no text has the row
 abbrev s-lost : After-enum_told → S
@@ -85,7 +69,7 @@ s-lost c = c.before.before.before.before
 pub returns-in_default : goal.returns-in_default
 returns-in_default c =
     let s = s-lost (lts.walk_of-After-enum_told tie.the-claims reads.Pre reads.Post goal.the-invariant-loop-at goal.the-decreases-loop-at c.before) in
-    mid_strayed (at-s s).loop-at.invariant s.stretch-found.result s.stretch-found.ensures c.before.in_default.is (long-as-part s)
+    mid_strayed (at-s s).loop-at.invariant s.stretch-found.result s.stretch-found.ensures c.before.in_default.is (λ e. e)
 
 -- written
 abbrev K : Type 0
@@ -94,26 +78,17 @@ K = After-known_told
 abbrev s-of : K → S
 s-of k = k.before.before.before.before.before
 
-step-on : (k : K) → let l = at-s (s-of k) in
-    let s = start l in
-    Mid s.args.row.now s.args.stop s.args.from s.args.begun s.args.unclosed s.args.counted s.args.text.now (text (s-of k))
-    k.before.found-1.given.0.1.0 k.before.found-1.given.0.1.1.0 (l.loop-at.count + k.before.found-1.given.0.1.1.1.0) k.before.found-1.given.0.0
-    × (l.loop-at.at < s.args.stop → l.loop-at.at < k.before.found-1.given.0.0)
-step-on k =
-    let s = s-of k in
-    let t = s.before.before in
-    mid_stride (at-s s).loop-at.invariant (omega (arith, t.if-count-text.true)) s.stretch-found.result s.stretch-found.ensures k.before.found-1.given.1
-
-pub overflow_add-count : goal.overflow_add-count
-overflow_add-count c =
-    let s = start (at-s (s-of (lts.walk_of-After-known_told tie.the-claims reads.Pre reads.Post goal.the-invariant-loop-at goal.the-decreases-loop-at c.before))) in
-    omega (arith, mid_few (step-on (lts.walk_of-After-known_told tie.the-claims reads.Pre reads.Post goal.the-invariant-loop-at goal.the-decreases-loop-at c.before)).0 s.requires.5, (step-on (lts.walk_of-After-known_told tie.the-claims reads.Pre reads.Post goal.the-invariant-loop-at goal.the-decreases-loop-at c.before)).0.leads.within, s.requires.0)
-
 pub loop-at-smaller-then-count-text : goal.loop-at-smaller-then-count-text
-loop-at-smaller-then-count-text c = omega (arith, (step-on (lts.walk_of-After-known_told tie.the-claims reads.Pre reads.Post goal.the-invariant-loop-at goal.the-decreases-loop-at c.before)).0.leads.within, (step-on (lts.walk_of-After-known_told tie.the-claims reads.Pre reads.Post goal.the-invariant-loop-at goal.the-decreases-loop-at c.before)).1 (s-of (lts.walk_of-After-known_told tie.the-claims reads.Pre reads.Post goal.the-invariant-loop-at goal.the-decreases-loop-at c.before)).before.before.before.loop-at-test.true)
+loop-at-smaller-then-count-text c =
+    let s = s-of (lts.walk_of-After-known_told tie.the-claims reads.Pre reads.Post goal.the-invariant-loop-at goal.the-decreases-loop-at c.before) in
+    let l = at-s s in
+    let m = mid_stride l.loop-at.invariant s.stretch-found.result s.stretch-found.ensures c.before.in-On.is in
+    omega (arith, m.0.leads.within, m.1 s.before.before.before.loop-at-test.true)
 
 pub loop-at-preserved-then-count-text : goal.loop-at-preserved-then-count-text
-loop-at-preserved-then-count-text c = (step-on (lts.walk_of-After-known_told tie.the-claims reads.Pre reads.Post goal.the-invariant-loop-at goal.the-decreases-loop-at c.before)).0
+loop-at-preserved-then-count-text c =
+    let s = s-of (lts.walk_of-After-known_told tie.the-claims reads.Pre reads.Post goal.the-invariant-loop-at goal.the-decreases-loop-at c.before) in
+    (mid_stride (at-s s).loop-at.invariant s.stretch-found.result s.stretch-found.ensures c.before.in-On.is).0
 
 pub unwritten-found-requires : goal.unwritten-found-requires
 unwritten-found-requires c =
@@ -145,8 +120,8 @@ on k =
     let m = l.loop-at.invariant in
     mid_unwritten m (omega (arith, u.before.if-count-text.false, m.wrote.0)) u.unwritten-found.result u.unwritten-found.ensures k.before.found-in-On-found-2-1.given.1
 
-pub overflow_add-count-else-count-text : goal.overflow_add-count-else-count-text
-overflow_add-count-else-count-text c =
+pub overflow_add-count : goal.overflow_add-count
+overflow_add-count c =
     let s = start (at-u (u-of (lts.walk_of-After-known_told2 tie.the-claims reads.Pre reads.Post goal.the-invariant-loop-at goal.the-decreases-loop-at c.before))) in
     omega (arith, mid_few (on (lts.walk_of-After-known_told2 tie.the-claims reads.Pre reads.Post goal.the-invariant-loop-at goal.the-decreases-loop-at c.before)).0 s.requires.5, (on (lts.walk_of-After-known_told2 tie.the-claims reads.Pre reads.Post goal.the-invariant-loop-at goal.the-decreases-loop-at c.before)).0.leads.within, s.requires.0)
 

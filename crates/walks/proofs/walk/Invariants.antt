@@ -1,6 +1,5 @@
 -- `walk`: between two stretches, what was read of the part so far, its count and what is written (`Mid`). A stretch is more signs, whether it is written
 -- (`mid_stride`) or only counted (`mid_unwritten`). The measure is what is left of the row. Assumes nothing.
-use mathlib.Core.Path.{◌≡◌}
 use Prim.Native.Nat.{◌+◌, ◌-◌}
 use lib.ListN.{length}
 use Rattle.walks.proofs.Walking.{Mid}
