@@ -70,14 +70,14 @@ pub fn ends(mode: usize, opened: usize) -> bool
     false
 }
 
-// The greatest byte from a place up to another. (This loop has no way out but its end, so that the machine takes many bytes at once.)
-fn greatest(row: &[u8], from: usize, end: usize) -> u8
-    requires { (from ≤ end) × (end ≤ length row.now) }
-    ensures { (n : ℕ) → from ≤ n → n < end → get_or row.now n 0 ≤ result }
+// The greatest byte from a place on. (This loop has no way out but its end, so that the machine takes many bytes at once.)
+fn greatest(row: &[u8], from: usize) -> u8
+    requires { from ≤ length row.now }
+    ensures { (n : ℕ) → from ≤ n → n < length row.now → get_or row.now n 0 ≤ result }
 {
     let mut most: u8 = 0;
     let mut place: usize = from;
-    while place < end {
+    while place < row.len() {
         let byte = row[place];
         if most < byte {
             most = byte;
@@ -87,47 +87,20 @@ fn greatest(row: &[u8], from: usize, end: usize) -> u8
     most
 }
 
-// The place of the first byte above 63, or the row's length, byte by byte; before the place `from` there is none.
-fn high_from(row: &[u8], from: usize) -> usize
+// The place of the first byte above 63, or the row's length; before the place `from` there is none. (Few rows have one, and the greatest byte says so fastest.)
+fn first_high(row: &[u8], from: usize) -> usize
     requires { (from ≤ length row.now) × CellsFrom row.now 0 from }
     ensures { FirstHigh row.now result }
 {
+    if greatest(row, from) <= LAST_CELL {
+        return row.len();
+    }
     let mut place: usize = from;
     while place < row.len() {
         if LAST_CELL < row[place] {
             return place;
         }
         place += 1;
-    }
-    place
-}
-
-// So many bytes are asked at once.
-const PART: usize = 512;
-
-// Up to where the part of a row goes that begins at a place.
-fn part_end(place: usize, end: usize) -> usize
-    requires { place ≤ end }
-    ensures { (result ≤ end) × (place ≤ result) × (place < end → place < result) }
-{
-    if end - place <= PART {
-        return end;
-    }
-    place + PART
-}
-
-// The same, part by part. (Few parts have one, and of the others the greatest byte says so fastest.)
-fn first_high(row: &[u8], from: usize) -> usize
-    requires { (from ≤ length row.now) × CellsFrom row.now 0 from }
-    ensures { FirstHigh row.now result }
-{
-    let mut place: usize = from;
-    while place < row.len() {
-        let end = part_end(place, row.len());
-        if LAST_CELL < greatest(row, place, end) {
-            return high_from(row, place);
-        }
-        place = end;
     }
     place
 }

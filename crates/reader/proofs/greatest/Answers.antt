@@ -1,4 +1,4 @@
--- `greatest`: no byte between the first place and the place is above it. The measure is what is left up to the end. Assumes nothing.
+-- `greatest`: no byte between the first place and the place is above it. The measure is what is left of the row. Assumes nothing.
 use mathlib.Core.Path.{◌≡◌, ap}
 use mathlib.Core.Logic.{⊎_elim}
 use Prim.Native.Nat.{ℕ, ◌-◌}
@@ -9,7 +9,7 @@ use Rattle.rules.proofs.Finite.{le_or_lt}
 use Rattle.reader.proofs.greatest.Goals as goal
 
 pub loop-place-init : goal.loop-place-init
-loop-place-init c = (c.before.requires.0, omega arith, λ m h l. absurd (omega (arith, h, l)))
+loop-place-init c = (c.before.requires, omega arith, λ m h l. absurd (omega (arith, h, l)))
 
 pub loop-place-preserved : goal.loop-place-preserved
 loop-place-preserved c =
