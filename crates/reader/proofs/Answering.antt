@@ -65,6 +65,20 @@ module _ (r : Row) where
       pub accepted : c ≤ longest_text → ReadsAs castilian r text
       accepted h = record { proper = proper text has; reads = has; short = omega (arith, told.count) }
 
+      -- THE ENDS OF `read` that are no refusal of the row
+      pub read_cramped : (lent new : List ℕ) → new ≡ lent → c ≤ longest_text → length lent < c → Read castilian r lent (NeedsRoom c) new
+      read_cramped lent new same h j =
+          subst (Read castilian r lent (NeedsRoom c)) (sym same)
+          (refused (NeedsRoom c) (needs_room c) refl
+          (subst (λ (n : ℕ). RowAnswer castilian r (length lent) (refuses (needs_room n))) (sym told.count)
+          (text_needs_room text (accepted h) (omega (arith, told.count)))))
+
+      pub read_done : (lent new : List ℕ) → new ≡ laid text lent → c ≤ longest_text → c ≤ length lent → Read castilian r lent (Done c) new
+      read_done lent new is h j =
+          subst (Read castilian r lent (Done c)) (sym is)
+          (subst (λ (n : ℕ). Read castilian r lent (Done n) (laid text lent)) (sym told.count)
+          (done text (rules.read text (accepted h) (omega (arith, told.count)))))
+
       -- the answer that is no refusal of the row, by the room
       module _ (room : ℕ) where
         pub settle_cramped : c ≤ longest_text → room < c → Settled castilian r room (NeedsRoom c)
@@ -99,9 +113,9 @@ module _ (r : Row) where
   settled_text {n = n} (settled_done t (rules.read x h room)) e = let z : length t ≡ n = cc in (t, sym z, h, room)
   settled_text (settled_refused a x f answer) e = nothing (sym (ap refusal_of e) ∙ f)
 
-  pub read_done : {n : ℕ} (t : Text) → n ≡ length t → ReadsAs castilian r t → (lent new : List ℕ) → new ≡ laid t lent → length t ≤ length lent
+  pub read_text : {n : ℕ} (t : Text) → n ≡ length t → ReadsAs castilian r t → (lent new : List ℕ) → new ≡ laid t lent → length t ≤ length lent
       → Read castilian r lent (Done n) new
-  read_done t e h lent new is room =
+  read_text t e h lent new is room =
       subst (Read castilian r lent (Done _)) (sym is)
       (subst (λ (n : ℕ). Read castilian r lent (Done n) (laid t lent)) (sym e) (done t (rules.read t h room)))
 
@@ -112,5 +126,5 @@ nothing_told = record { signs = []; are = end_left [] 0 0 0 zero-le (omega arith
 
 pub read_empty : (r : Row) → length r ≡ 0 → (lent : List ℕ) → Read castilian r lent (Done 0) lent
 unfolding nothing_told
-read_empty [] e lent = read_done [] [] refl (accepted [] (omega arith) nothing_told (omega arith)) lent lent refl zero-le
+read_empty [] e lent = read_text [] [] refl (accepted [] (omega arith) nothing_told (omega arith)) lent lent refl zero-le
 read_empty (c ∷ r) e lent = absurd (omega arith)

@@ -26,7 +26,7 @@ use Rattle.walks.specs.Walks.{Wrote, add_signs, CellsFrom, Leads, Goes, goes_on,
 use Rattle.walks.specs.declared.Walked.{Walked}
 use Rattle.walks.specs.declared.Walked.TheVariants.{On, Nowhere}
 use Rattle.walks.proofs.Walking.{adds_some, adds_none}
-use Rattle.reader.proofs.Whole.{left_of_text, text_of_left, no_longer, Told}
+use Rattle.reader.proofs.Whole.{left_text, left_of_text, text_of_left, no_longer, Told}
 
 -- WHAT ONE WALK TELLS
 pub record Went (row : Row) (stop at m o k n u c : ℕ) : Type 0 where
@@ -90,6 +90,16 @@ abbrev pub told_whole : {row : Row} {k n u c : ℕ} (w : Went row (length row) 0
 told_whole w e = record { signs = w.signs; are = to_end w e; count = w.count }
 
 -- what it wrote, where there was room: for a code point a cell, or for a text of the longest
+pub room_whole : (row : Row) {c : ℕ} → Told (left 0 0 row) c → (t : List ℕ) → (length row ≤ length t) ⊎ (longest_text ≤ length t) → c ≤ longest_text → c ≤ length t
+room_whole row told t room h =
+    let text = (left_text row told.signs told.are).0 in
+    ⊎_elim (λ l. omega (arith, told.count, no_longer row (print_of told.signs) text, l)) (λ l. omega (arith, h, l)) room
+
+pub written_whole : {row : Row} {k n u c : ℕ} (w : Went row (length row) 0 0 0 k n u c) (t t' : List ℕ) → Wrote t t' 0 (print_of w.signs) → c ≤ length t
+    → take c t' ≡ print_of w.signs
+written_whole w t t' wrote room = front (print_of w.signs) t t' _ w.count (wrote.1 (omega (arith, w.count, room)))
+
+-- and of a text that has the row
 pub room_text : {row : Row} {x : Text} → ReadsAs castilian row x → (t : List ℕ) → (length row ≤ length t) ⊎ (longest_text ≤ length t) → length x ≤ length t
 room_text {row} {x} h t room = ⊎_elim (λ l. omega (arith, no_longer row x h.reads, l)) (λ l. omega (arith, h.short, l)) room
 

@@ -11,7 +11,7 @@ use Rattle.rules.specs.Answers.{ReadsAs}
 use Rattle.rules.specs.Castilian.{castilian}
 use Rattle.rows.specs.Laid.{laid}
 use Rattle.reader.proofs.Parts.{goes_same, room_text, written_text}
-use Rattle.reader.proofs.Answering.{read_undone, settled_text, read_done}
+use Rattle.reader.proofs.Answering.{read_undone, settled_text, read_text}
 use Rattle.reader.proofs.read_by.Goals as goal
 use Rattle.reader.proofs.read_by.Lts as lts
 use Rattle.reader.proofs.read_by.Tie as tie
@@ -102,7 +102,7 @@ returns c =
     let w = from-s (from-k k) in
     let s = start w in
     let t = text_of k in
-    read_done (row s) t.0 t.1 t.2 (lent s) _
+    read_text (row s) t.0 t.1 t.2 (lent s) _
     (p.copy.ensures
     ∙ ap (λ (x : List ℕ). laid x (lent s))
     (ap (λ (n : ℕ). take n (draft w)) t.1 ∙ written_text w.walk_whole-found.result w.walk_whole-found.ensures t.0 t.2.reads (room_text t.2 s.args.draft.now s.requires.3)))

@@ -11,7 +11,7 @@ use Rattle.rules.specs.Refusals.{longest_row}
 use Rattle.rows.specs.Laid.{laid}
 use Rattle.reader.proofs.Whole.{left_none}
 use Rattle.reader.proofs.OneCell.{Lone, one_none, one_alone, lone_print, lone_told}
-use Rattle.reader.proofs.Answering.{accepted, settle_cramped, read_undone, read_refused, read_done}
+use Rattle.reader.proofs.Answering.{accepted, settle_cramped, read_undone, read_refused, read_text}
 use Rattle.reader.proofs.read_cell.Goals as goal
 use Rattle.reader.proofs.read_cell.Lts as lts
 use Rattle.reader.proofs.read_cell.Tie as tie
@@ -80,6 +80,6 @@ returns c =
     let e = c.before.before in
     let s = start e in
     let t = lone_told (lone e) in
-    read_done (row s) (print_of t.signs) t.count (accepted (row s) (short s) t (omega arith)) (lent s) _
+    read_text (row s) (print_of t.signs) t.count (accepted (row s) (short s) t (omega arith)) (lent s) _
     (first-laid e.before.point_of-point.result (lent s) (omega (arith, c.before.if-text-eq0.false)) ∙ ap (λ (x : Text). laid x (lent s)) (sym (lone_print (lone e))))
     (omega (arith, t.count, c.before.if-text-eq0.false))

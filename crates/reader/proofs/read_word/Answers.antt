@@ -15,7 +15,7 @@ use Rattle.reader.specs.declared.Answer.TheVariants.{Done}
 use Rattle.reader.proofs.Whole.{no_longer}
 use Rattle.reader.proofs.Parts.{goes_same, written_text}
 use Rattle.reader.proofs.Copying.{Copied, copied_start, copied_on, copied_length, copied_end}
-use Rattle.reader.proofs.Answering.{read_undone, settled_text, read_done}
+use Rattle.reader.proofs.Answering.{read_undone, settled_text, read_text}
 use Rattle.reader.proofs.read_word.Goals as goal
 use Rattle.reader.proofs.read_word.Lts as lts
 use Rattle.reader.proofs.read_word.Tie as tie
@@ -139,7 +139,7 @@ all-copied l all =
     let k = (lts.walk_of-After-known_told tie.the-claims reads.Pre reads.Post goal.the-invariant-loop-place goal.the-decreases-loop-place l.before) in
     let w = from-s (from-k k) in
     let t = text_of k in
-    read_done (row w) t.0 t.1 t.2 (lent w) l.loop-place.text
+    read_text (row w) t.0 t.1 t.2 (lent w) l.loop-place.text
     (copied_end (room k) l.loop-place.invariant (omega (arith, fits k, all))
     ∙ ap (λ (x : List ℕ). laid x (lent w))
     (ap (λ (n : ℕ). take n (draft w)) t.1
