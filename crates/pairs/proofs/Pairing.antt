@@ -11,12 +11,12 @@ use native.Mathlib.Omega.{arith}
 use lib.Bits.{bit_xor}
 use lib.Dec.{T, eqb, ltb, eqb→eq, ltb→lt}
 use borrow.Author.Tests.{ne_eqb, lt-ltb, le-ltb}
+use Rattle.std.specs.declared.option.Option as rust
+use Rattle.std.specs.Prelude.{Some, None}
 use Rattle.rules.specs.Pairs.{kinds, may_stand, mark_fits, mark_turns, closed, closed_below}
 use Rattle.rules.proofs.Finite.{le_or_lt, below, at_below, beq_same, false_of, holds, Hold, hold}
 use Rattle.entries.specs.Entries.{marks, mark_number}
 use Rattle.pairs.specs.Opened.{open_states, is_open, opens_of, turned_by, kind_by, opener_by, pairs_by}
-use Rattle.pairs.specs.declared.Pairs.{Pairs}
-use Rattle.pairs.specs.declared.Pairs.TheVariants.{Stand, Broken}
 
 -- THE MARK: its kind, and whether it is the opener
 kind_facts : ℕ → List Bool
@@ -112,11 +112,11 @@ module _ (o k : ℕ) (few : o < open_states) (l : k < kinds) where
   bit_turned = eqb→eq (bit_xor o (1 * 2 ^ k % 18446744073709551616)) (turned_by o k) (at_turn k l).1.1.0
 
   -- WHAT A MARK MEANS: of this kind and side it stands, and turns its kind; or it may not stand
-  abbrev pub Means : Bool → Pairs → Type 0
-  Means b (Stand p) = (mark_fits (opens_of o) (some (k, b)) ≡ true) × (mark_turns (some (k, b)) (opens_of o) ≡ opens_of p) × (p < open_states)
-  Means b Broken = mark_fits (opens_of o) (some (k, b)) ≡ false
+  abbrev pub Means : Bool → rust.Option ℕ → Type 0
+  Means b (Some p) = (mark_fits (opens_of o) (some (k, b)) ≡ true) × (mark_turns (some (k, b)) (opens_of o) ≡ opens_of p) × (p < open_states)
+  Means b None = mark_fits (opens_of o) (some (k, b)) ≡ false
 
-  meant : (b x : Bool) → is_open o k ≡ x → Means b (cond (may_stand b x) (Stand (turned_by o k)) Broken)
+  meant : (b x : Bool) → is_open o k ≡ x → Means b (cond (may_stand b x) (Some (turned_by o k)) None)
   meant true true e = rw (open_is, e)
   meant true false e = (rw (open_is, e), opening e, turned_few)
   meant false true e = (rw (open_is, e), closing e, turned_few)
@@ -135,16 +135,16 @@ may_stand_lem false true = refl
 may_stand_lem false false = refl
 
 module _ (o m : ℕ) (x : Bool) (is_x : x ≡ is_open o (kind_by m)) where
-  pairs_is : pairs_by o m ≡ cond (not (beq x (opener_by m))) (Stand (turned_by o (kind_by m))) Broken
+  pairs_is : pairs_by o m ≡ cond (not (beq x (opener_by m))) (Some (turned_by o (kind_by m))) None
   unfolding pairs_by
   pairs_is =
-      ap (λ (b : Bool). cond (may_stand (opener_by m) b) (Stand (turned_by o (kind_by m))) Broken) (sym is_x)
-      ∙ ap (λ (b : Bool). cond b (Stand (turned_by o (kind_by m))) Broken) (may_stand_lem (opener_by m) x)
+      ap (λ (b : Bool). cond (may_stand (opener_by m) b) (Some (turned_by o (kind_by m))) None) (sym is_x)
+      ∙ ap (λ (b : Bool). cond b (Some (turned_by o (kind_by m))) None) (may_stand_lem (opener_by m) x)
 
-  pub pairs_broken : beq x (opener_by m) ≡ true → Broken ≡ pairs_by o m
+  pub pairs_broken : beq x (opener_by m) ≡ true → None ≡ pairs_by o m
   pairs_broken e = sym (pairs_is ∙ rw e)
 
-  pub pairs_stand : beq x (opener_by m) ≡ false → Stand (turned_by o (kind_by m)) ≡ pairs_by o m
+  pub pairs_stand : beq x (opener_by m) ≡ false → Some (turned_by o (kind_by m)) ≡ pairs_by o m
   pairs_stand e = sym (pairs_is ∙ rw e)
 
 -- AT THE END: nothing is open exactly where the number is 0

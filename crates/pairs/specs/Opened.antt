@@ -1,9 +1,7 @@
 -- The pair rule over bits (paper 01, "Pairs"; crates/rules/specs/Pairs.antt). In order: how many states there are; is a kind open; a kind
 -- turned; what a mark does. Not here: that this is the rules' (proofs/Pairing.antt). Assumes nothing.
-use Rattle.std.specs.Prelude.{Bool, ◌&&◌, cond, ℕ, ◌+◌, ◌-◌, ◌/◌, ◌%◌, ◌^◌, eqb, ltb}
+use Rattle.std.specs.Prelude.{Bool, Option, Some, None, ◌&&◌, cond, ℕ, ◌+◌, ◌-◌, ◌/◌, ◌%◌, ◌^◌, eqb, ltb}
 use Rattle.rules.specs.Pairs.{kinds, Opens, may_stand}
-use Rattle.pairs.specs.declared.Pairs.{Pairs}
-use Rattle.pairs.specs.declared.Pairs.TheVariants.{Stand, Broken}
 
 -- a bit for each kind
 abbrev pub open_states : ℕ
@@ -28,5 +26,5 @@ abbrev pub opener_by : ℕ → Bool
 opener_by m = eqb (m % 2) 1
 
 -- a mark that may stand turns its kind
-unfoldable pub pairs_by : ℕ → ℕ → Pairs
-pairs_by o m = cond (may_stand (opener_by m) (is_open o (kind_by m))) (Stand (turned_by o (kind_by m))) Broken
+unfoldable pub pairs_by : ℕ → ℕ → Option ℕ
+pairs_by o m = cond (may_stand (opener_by m) (is_open o (kind_by m))) (Some (turned_by o (kind_by m))) None

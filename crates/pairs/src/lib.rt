@@ -7,13 +7,6 @@ ghost use Rattle.rules.specs.Pairs.{kinds};
 ghost use Rattle.entries.specs.Entries.{marks};
 ghost use Rattle.pairs.specs.Opened.{open_states, is_open, turned_by, pairs_by};
 
-// The pair rule at a mark: which kinds are open after it, a bit for each, or that it may not stand there.
-#[derive(Clone, Copy)]
-pub enum Pairs {
-    Stand(usize),
-    Broken,
-}
-
 // Is the kind open?
 pub fn is_open(opened: usize, kind: usize) -> bool
     requires { kind < kinds }
@@ -30,16 +23,16 @@ pub fn turned(opened: usize, kind: usize) -> usize
     opened ^ (1usize << kind)
 }
 
-// "An opener stands only where its kind is closed, a closer only where it is open." The mark is 2k + 1 for the opener of kind k, 2k + 2 for
-// its closer.
-pub fn pairs_after(opened: usize, mark: usize) -> Pairs
+// "An opener stands only where its kind is closed, a closer only where it is open.": which kinds are open behind a mark, or none where it may not stand. The
+// mark is 2k + 1 for the opener of kind k, 2k + 2 for its closer.
+pub fn pairs_after(opened: usize, mark: usize) -> Option<usize>
     requires { (opened < open_states) × (0 < mark) × (mark < marks) }
     ensures { result ≡ pairs_by opened mark }
 {
     let kind = (mark - 1) / 2;
     let opener = mark % 2 == 1;
     if is_open(opened, kind) == opener {
-        return Pairs::Broken;
+        return None;
     }
-    Pairs::Stand(turned(opened, kind))
+    Some(turned(opened, kind))
 }

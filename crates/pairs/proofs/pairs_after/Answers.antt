@@ -1,7 +1,7 @@
 -- `pairs_after`: a mark may not stand where its kind is open and it is the opener, nor where neither is so (proofs/Pairing.antt).
 -- Assumes nothing.
 use mathlib.Core.Path.{ap, ◌∙◌}
-use Rattle.pairs.specs.declared.Pairs.TheVariants.{Stand}
+use Rattle.std.specs.Prelude.{Some}
 use Rattle.pairs.proofs.Pairing.{pairs_broken, pairs_stand}
 use Rattle.pairs.proofs.pairs_after.Goals as goal
 
@@ -15,4 +15,4 @@ pub returns : goal.returns
 returns c =
     let a = c.before.before in
     let s = a.before in
-    ap Stand c.turned.ensures ∙ pairs_stand s.args.opened s.args.mark a.is_open.result a.is_open.ensures c.before.if-is_open-opener.false
+    ap Some c.turned.ensures ∙ pairs_stand s.args.opened s.args.mark a.is_open.result a.is_open.ensures c.before.if-is_open-opener.false
