@@ -1,19 +1,31 @@
--- The bytes of a code point. In order: which bytes they are, by how many; the ends of `put_bytes` and of `encode`. Assumes nothing.
+-- The bytes of a code point. In order: which numbers are scalar values; which bytes one has, by how many; what `put` stores; the ends of `encode`. Assumes nothing.
 use mathlib.Core.Bool.{Bool, true, false, ◌&&◌, ◌||◌}
-use mathlib.Core.List.{List, [], ◌∷◌}
+use mathlib.Core.List.{List, [], ◌∷◌, ◌++◌}
+use mathlib.Core.Logic.{inl, inr}
 use mathlib.Core.Path.{◌≡◌, refl, sym, ap, ◌∙◌}
-use Prim.Native.Nat.{ℕ, ◌+◌, ◌/◌, ◌%◌, ◌≤◌, ◌<◌}
+use Prim.Native.Nat.{ℕ, ◌+◌, ◌/◌, ◌%◌, ◌≤◌, ◌<◌, min}
 use native.Mathlib.Omega.{arith}
-use lib.ListN.{length, take, set}
+use lib.ListN.{length, take, drop, length-take}
 use lib.Seq.{sets}
 use lib.Dec.{leb, ltb}
-use borrow.Author.Tests.{lt-ltb, le-ltb, ltb-true, leb-true}
+use borrow.Author.Tests.{lt-ltb, le-ltb, lt-leb, le-leb, ltb-true, leb-true}
+use Rattle.std.specs.Prelude.{Option, Some, None, MatchOption, is_some}
+use Rattle.std.specs.Char.{InScalarRange, OutOfScalarRange}
+use Rattle.std.proofs.lemmas.List.{take_min}
 use Rattle.rows.specs.Laid.{laid}
 use Rattle.rows.proofs.Stored.{stored_is}
 use Rattle.encoding.specs.Encoding.{is_scalar, bytes_of, replacement, encoded_of, Encoded, Wrote}
 
 false_true : false ≡ true → ⊥
 false_true e = let z : ◌≡◌ {A = ℕ} 0 1 = cc in absurd (omega (arith, z))
+
+-- a number of which std makes a `char`
+pub is_char : (c : ℕ) (r : Option ℕ) → MatchOption r (OutOfScalarRange c) (λ _. InScalarRange c) → is_some r ≡ is_scalar c
+unfolding is_scalar
+is_char c None (inl o) = rw (le-ltb c 0xd800 o.0, lt-leb 0xe000 c (omega (arith, o.1))) refl
+is_char c None (inr o) = rw (le-ltb c 0xd800 (omega (arith, o)), le-leb 0xe000 c (omega (arith, o)), lt-leb c 0x10ffff o) refl
+is_char c (Some x) (inl h) = rw (lt-ltb c 0xd800 h) refl
+is_char c (Some x) (inr h) = rw (le-ltb c 0xd800 (omega (arith, h.0)), le-leb 0xe000 c h.0, le-leb c 0x10ffff h.1) refl
 
 module _ (c : ℕ) where
   pub one_byte : c < 0x80 → bytes_of c ≡ c ∷ []
@@ -32,27 +44,13 @@ module _ (c : ℕ) where
   unfolding bytes_of
   four_bytes l = rw (le-ltb c 0x80 (omega (arith, l)), le-ltb c 0x800 (omega (arith, l)), le-ltb c 0x10000 l) refl
 
--- THE ENDS OF `put_bytes`: one store behind another
-module _ (row l m : List ℕ) (a : ℕ) (first : m ≡ set l 0 a) where
-  pub wrote_one : row ≡ a ∷ [] → Wrote row l 1 m
-  wrote_one e = rw e (record { count = refl; few = omega arith; stored = first })
+-- WHAT IS PUT: `front` is as much of a row as there is room for
+pub put_is : (row l front : List ℕ) (fits : ℕ) → fits ≡ min (length l) (length row) → front ≡ take fits row → front ++ drop fits l ≡ sets l 0 row
+put_is row l front fits e f = rw (f, e, take_min (length l) row, sym (length-take (length l) row)) (sym (stored_is row l))
 
-  module _ (n : List ℕ) (b : ℕ) (second : n ≡ set m 1 b) where
-    two : n ≡ sets l 0 (a ∷ b ∷ [])
-    two = second ∙ ap (λ (x : List ℕ). set x 1 b) first
-
-    pub wrote_two : row ≡ a ∷ b ∷ [] → Wrote row l 2 n
-    wrote_two e = rw e (record { count = refl; few = omega arith; stored = two })
-
-    module _ (o : List ℕ) (c : ℕ) (third : o ≡ set n 2 c) where
-      three : o ≡ sets l 0 (a ∷ b ∷ c ∷ [])
-      three = third ∙ ap (λ (x : List ℕ). set x 2 c) two
-
-      pub wrote_three : row ≡ a ∷ b ∷ c ∷ [] → Wrote row l 3 o
-      wrote_three e = rw e (record { count = refl; few = omega arith; stored = three })
-
-      pub wrote_four : (q : List ℕ) (d : ℕ) → q ≡ set o 3 d → row ≡ a ∷ b ∷ c ∷ d ∷ [] → Wrote row l 4 q
-      wrote_four q d fourth e = rw e (record { count = refl; few = omega arith; stored = fourth ∙ ap (λ (x : List ℕ). set x 3 d) three })
+-- a row that is another
+pub wrote_as : {row same l : List ℕ} {r : ℕ} {m : List ℕ} → row ≡ same → Wrote same l r m → Wrote row l r m
+wrote_as e w = rw e w
 
 -- THE ENDS OF `encode`
 pub encoded : (c : ℕ) (row l : List ℕ) (r : ℕ) (new : List ℕ) → encoded_of c ≡ row → Wrote row l r new → Encoded c l r new × (r ≤ 4)

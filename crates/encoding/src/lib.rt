@@ -1,7 +1,7 @@
 // The bytes of a code point in UTF-8 (Unicode, table 3-6).
 #![tactic(auto)]
 
-ghost use Rattle.std.specs.Prelude.{◌≡◌, ◌+◌, ◌%◌, ◌≤◌, ◌<◌, set};
+ghost use Rattle.std.specs.Prelude.{◌≡◌, ◌+◌, ◌%◌, ◌≤◌, ◌<◌, length};
 ghost use Rattle.encoding.specs.Encoding.{is_scalar, bytes_of, Encoded, Wrote};
 
 // A number that is no code point of UTF-8 is shown as this one; so is "a byte outside any well-formed sequence" (crate `sequences`).
@@ -21,47 +21,35 @@ pub const LATER_MARK: u8 = 0x80;
 // So many values have the six bits of a later byte.
 pub const LATER_VALUES: u32 = 64;
 
-// The surrogates stand between these, and no code point above the last.
-const FIRST_SURROGATE: u32 = 0xd800;
+// The last code points of one, two and three bytes.
+const LAST_OF_ONE: u32 = 0x7f;
 
-const LAST_SURROGATE: u32 = 0xdfff;
+const LAST_OF_TWO: u32 = 0x7ff;
 
-const LAST_POINT: u32 = 0x10ffff;
-
-fn narrow(n: u32) -> u8
-    requires { n < 256 }
-    ensures { result ≡ n }
-{
-    n as u8
-}
+const LAST_OF_THREE: u32 = 0xffff;
 
 // A later byte: its mark, and six bits.
 fn later_byte(bits: u32) -> u8
     ensures { result ≡ 0x80 + bits % 64 }
 {
-    LATER_MARK + narrow(bits % LATER_VALUES)
+    LATER_MARK + (bits % LATER_VALUES) as u8
 }
 
 // Whether UTF-8 has bytes for a number: Unicode's scalar values, all code points but the surrogates.
 fn is_scalar(point: u32) -> bool
     ensures { result ≡ is_scalar point }
 {
-    if point < FIRST_SURROGATE {
-        return true;
-    }
-    if point <= LAST_SURROGATE {
-        return false;
-    }
-    point <= LAST_POINT
+    char::from_u32(point).is_some()
 }
 
-// Stores a byte at a place, if there is that place.
-fn store_byte(bytes: &mut [u8], place: usize, byte: u8)
-    ensures { bytes.new ≡ set bytes.old place byte }
+// Stores a row of at most four bytes from the first element on, as far as there is room, and answers how many it has.
+fn put(row: &[u8], bytes: &mut [u8]) -> usize
+    requires { length row.now ≤ 4 }
+    ensures { Wrote row.now bytes.old result bytes.new }
 {
-    if place < bytes.len() {
-        bytes[place] = byte;
-    }
+    let fits = bytes.len().min(row.len());
+    bytes[..fits].copy_from_slice(&row[..fits]);
+    row.len()
 }
 
 // The bytes of a scalar value, by table 3-6.
@@ -69,26 +57,27 @@ fn put_bytes(point: u32, bytes: &mut [u8]) -> usize
     requires { point < 0x110000 }
     ensures { Wrote (bytes_of point) bytes.old result bytes.new }
 {
-    if point < 0x80 {
-        store_byte(bytes, 0, narrow(point));
-        return 1;
+    match point {
+        ..=LAST_OF_ONE => put(&[point as u8], bytes),
+        ..=LAST_OF_TWO => put(&[MARK_2 + (point / 0x40) as u8, later_byte(point)], bytes),
+        ..=LAST_OF_THREE => put(
+            &[
+                MARK_3 + (point / 0x1000) as u8,
+                later_byte(point / 0x40),
+                later_byte(point),
+            ],
+            bytes,
+        ),
+        _ => put(
+            &[
+                MARK_4 + (point / 0x40000) as u8,
+                later_byte(point / 0x1000),
+                later_byte(point / 0x40),
+                later_byte(point),
+            ],
+            bytes,
+        ),
     }
-    if point < 0x800 {
-        store_byte(bytes, 0, MARK_2 + narrow(point / 0x40));
-        store_byte(bytes, 1, later_byte(point));
-        return 2;
-    }
-    if point < 0x10000 {
-        store_byte(bytes, 0, MARK_3 + narrow(point / 0x1000));
-        store_byte(bytes, 1, later_byte(point / 0x40));
-        store_byte(bytes, 2, later_byte(point));
-        return 3;
-    }
-    store_byte(bytes, 0, MARK_4 + narrow(point / 0x40000));
-    store_byte(bytes, 1, later_byte(point / 0x1000));
-    store_byte(bytes, 2, later_byte(point / 0x40));
-    store_byte(bytes, 3, later_byte(point));
-    4
 }
 
 // The bytes of a code point, written from the first element on, as far as there is room, and how many there are, which is at most 4; a number that is no scalar
