@@ -9,11 +9,11 @@ use native.Mathlib.Omega.{arith}
 use lib.Dec.{T, leb, leb→le}
 use lib.ListN.{length, get_or, take, drop}
 use lib.Seq.{split_at, length-take-le}
-use Rattle.rules.proofs.Finite.{every, below, at_below, and_left, and_right, and_both}
+use Rattle.rules.proofs.Finite.{every, below, at_below, and_left, and_right}
 use Rattle.sequences.specs.Forms.{Form, forms, within, begin, WellFormed}
 use Rattle.sequences.specs.Points.{length_in, length_at}
 use Rattle.sequences.proofs.Table.{ends_below, starts_above, line_is}
-use Rattle.sequences.proofs.Sequences.{begin_room}
+use Rattle.sequences.proofs.Sequences.{begin_room, begin_take}
 
 true_of : (b : Bool) → T b → b ≡ true
 true_of true t = refl
@@ -75,13 +75,6 @@ found (f ∷ fs) bs = go (begin f bs) refl (found fs bs)
     go false e (inl h) = inl h
     go false e (inr h) = inr (suc h.0, omega (arith, h.1), h.2)
 
--- what begins with a form begins with a sequence of it
-begin_front : (f : Form) (bs : List ℕ) → T (begin f bs) → T (begin f (take (length f) bs))
-begin_front [] bs t = tt
-begin_front (r ∷ f) [] t = absurd t
-begin_front (r ∷ f) (b ∷ bs) t =
-    and_both (within r b) (begin f (take (length f) bs)) (and_left (within r b) (begin f bs) t) (begin_front f bs (and_right (within r b) (begin f bs) t))
-
 pub none_found : (bs : List ℕ) → ((n : ℕ) → WellFormed (take n bs) → ⊥) → length_at bs ≡ 0
 none_found bs none = go (found forms bs)
   where
@@ -92,7 +85,7 @@ none_found bs none = go (found forms bs)
           line = k;
           there = h;
           whole = length-take-le (length f) bs (begin_room f bs (true_of (begin f bs) t));
-          fits = begin_front f bs t;
+          fits = rw (begin_take f bs) t;
         })
 
     go : (length_at bs ≡ 0) ⊎ ((k : ℕ) × (k < length forms) × T (begin (get_or forms k []) bs)) → length_at bs ≡ 0

@@ -1,12 +1,9 @@
--- What the functions inside promise one another: what a first byte says, what the later bytes give, the code point at a place. `next_at` has the last
--- for its promise. Assumes nothing.
-use Rattle.std.specs.Prelude.{true, false, cond, List, [], ◌∷◌, ◌≡◌, ℕ, zero, suc, ◌+◌, ◌-◌, ◌≤◌, ◌<◌, T, length, take}
+-- What the functions inside promise one another: what a first byte says, what the later bytes give, the code point at a place, the sequence there. `next_at` has
+-- the third for its promise. Assumes nothing.
+use Rattle.std.specs.Prelude.{true, false, cond, Option, Some, None, List, [], ◌∷◌, ◌≡◌, ℕ, zero, suc, ◌+◌, ◌-◌, ◌≤◌, ◌<◌, length, take, drop}
 use Rattle.sequences.specs.Forms.{Form, ◌to◌, begin, mark_of, joined}
 use Rattle.sequences.specs.Points.{length_at, point_at}
 use Rattle.sequences.specs.declared.Lead.{Lead}
-use Rattle.sequences.specs.declared.Lead.TheVariants as leads
-use Rattle.sequences.specs.declared.Joined.{Joined}
-use Rattle.sequences.specs.declared.Joined.TheVariants as joins
 use Rattle.sequences.specs.declared.Next.{Next}
 
 -- the ranges of n later bytes: the first has its own, the others have 80 to BF
@@ -35,17 +32,22 @@ pub record Begun (b n low high mark : ℕ) : Type 0 where
   pub above : mark ≤ b
   pub fitting : Fitting n low high (b - mark)
 
-abbrev pub LeadIs : ℕ → Lead → Type 0
-LeadIs b (leads.Begins n low high mark) = Begun b n low high mark
-LeadIs b leads.Outside = (bs : List ℕ) → length_at (b ∷ bs) ≡ 0
+abbrev pub LeadIs : ℕ → Option Lead → Type 0
+LeadIs b (Some l) = Begun b l.later l.least l.most l.mark
+LeadIs b None = (bs : List ℕ) → length_at (b ∷ bs) ≡ 0
 
 -- WHAT THE LATER BYTES GIVE
-abbrev pub JoinedIs : Form → ℕ → List ℕ → Joined → Type 0
-JoinedIs f bits bs (joins.Point v) = (begin f bs ≡ true) × (v ≡ joined bits (take (length f) bs))
-JoinedIs f bits bs joins.Outside = begin f bs ≡ false
+abbrev pub JoinedIs : Form → ℕ → List ℕ → Option ℕ → Type 0
+JoinedIs f bits bs (Some v) = (begin f bs ≡ true) × (v ≡ joined bits (take (length f) bs))
+JoinedIs f bits bs None = begin f bs ≡ false
 
 -- THE CODE POINT AT A PLACE, and the place behind its bytes: behind one byte where that is outside any sequence
 pub record NextIs (bytes rest : List ℕ) (at : ℕ) (r : Next) : Type 0 where
   pub point : r.point ≡ point_at rest
   pub next : r.next ≡ at + suc (length_at rest - 1)
   pub inside : r.next ≤ length bytes
+
+-- THE SEQUENCE AT A PLACE, if one begins there
+abbrev pub SequenceIs : List ℕ → ℕ → Option Next → Type 0
+SequenceIs bytes at (Some r) = NextIs bytes (drop at bytes) at r
+SequenceIs bytes at None = length_at (drop at bytes) ≡ 0
