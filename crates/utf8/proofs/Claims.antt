@@ -1,7 +1,7 @@
 -- The claims (specs/Claims.antt), in their order, by what is known of the sequence with which some bytes begin. Assumes nothing.
 use mathlib.Core.List.{List, [], ◌∷◌, ◌++◌}
 use mathlib.Core.Path.{◌≡◌, refl, sym, ap, ◌∙◌}
-use Prim.Native.Nat.{ℕ, zero, suc, ◌-◌, ◌≤◌}
+use Prim.Native.Nat.{ℕ, suc, ◌-◌}
 use native.Mathlib.Omega.{arith}
 use lib.Dec.{eqb-suc-zero}
 use lib.ListN.{length}
@@ -13,7 +13,7 @@ use Rattle.sequences.proofs.Fronts.{sequence_length, none_empty, none_found}
 use Rattle.sequences.proofs.Inverse.{encoded_well_formed}
 use Rattle.utf8.specs.Decoding.{decoded_from, decoded}
 use Rattle.utf8.specs.Claims.{SequenceDecoded, OutsideDecoded, DecodedEncoded, NoMorePoints, WorkedBytes, OneDecoded}
-use Rattle.utf8.proofs.Decoding.{behind}
+use Rattle.utf8.proofs.Decoding.{behind, few_points}
 
 pub sequence_decoded : SequenceDecoded
 sequence_decoded [] bs w = absurd (none_empty w)
@@ -34,12 +34,7 @@ decoded_encoded c bs e =
     sequence_decoded (encoded_of c) bs w.0 ∙ ap (λ (p : ℕ). p ∷ decoded bs) w.1
 
 pub no_more_points : NoMorePoints
-no_more_points bs = go 0 bs
-  where
-    go : (k : ℕ) (bs : List ℕ) → length (decoded_from k bs) ≤ length bs
-    go k [] = omega arith
-    go (suc k) (b ∷ bs) = omega (arith, go k bs)
-    go zero (b ∷ bs) = omega (arith, go (length_at (b ∷ bs) - 1) bs)
+no_more_points = few_points
 
 pub worked_bytes : WorkedBytes
 worked_bytes = (refl, refl, refl, refl, refl, refl)

@@ -2,7 +2,31 @@
 #![tactic(auto)]
 
 ghost use Rattle.std.specs.Prelude.{◌≡◌, ◌≤◌, length, set};
-ghost use Rattle.utf8.specs.Decoding.{Decoded};
+ghost use Rattle.std.specs.Iterator.{YieldsFirst, item_count};
+ghost use Rattle.utf8.specs.Decoding.{decoded, Decoded};
+
+// The code points of the bytes that are left, one by one, from the front.
+#[derive(Drop)]
+struct Points<'a> {
+    bytes: &'a [u8],
+}
+
+impl<'a> Iterator for Points<'a> {
+    type Item = u32;
+
+    ghost next_gives = { YieldsFirst (λ s. decoded s.bytes.now) };
+
+    ghost remaining = { item_count (λ s. decoded s.bytes.now) };
+
+    fn next(&mut self) -> Option<u32> {
+        if self.bytes.is_empty() {
+            return None;
+        }
+        let found = sequences::next_at(self.bytes, 0);
+        self.bytes = &self.bytes[found.next..];
+        Some(found.point)
+    }
+}
 
 // Stores a code point at a place of the text, if it has that place.
 fn store(text: &mut [u32], place: usize, point: u32)
@@ -19,13 +43,10 @@ pub fn decode(bytes: &[u8], text: &mut [u32]) -> usize
     ensures decoded { Decoded bytes.now text.old result text.new }
     ensures upper_bound { result ≤ length bytes.now }
 {
-    let mut at = 0;
     let mut count = 0;
-    while at < bytes.len() {
-        let found = sequences::next_at(bytes, at);
-        store(text, count, found.point);
+    for point in (Points { bytes }) {
+        store(text, count, point);
         count += 1;
-        at = found.next;
     }
     count
 }
