@@ -1,12 +1,11 @@
--- The row that a line of characters shows: the laws that the functions cite. In order: the byte of a character; between two characters (`Mid`): the bytes still to come, stored
+-- The row that a line of characters shows: the laws that the functions cite. In order: between two characters (`Mid`): the bytes still to come, stored
 -- behind those that are, make the whole row; the ends of `row_of`; what a caller has of it. Not here: the code points of a line (crate `utf8`). Assumes nothing.
-use mathlib.Core.List.{List, [], ◌∷◌, map}
-use mathlib.Core.Path.{◌≡◌, refl, sym, ap, ◌∙◌}
-use Prim.Native.Nat.{ℕ, suc, ◌+◌, ◌-◌, ◌≤◌, ◌<◌}
+use mathlib.Core.List.{List, [], map}
+use mathlib.Core.Path.{◌≡◌, sym, ap, ◌∙◌}
+use Prim.Native.Nat.{ℕ, ◌≤◌}
 use native.Mathlib.Omega.{arith}
-use lib.ListN.{length, get_or, take, drop, set, length-set, length-map, drop_of_length-le}
-use lib.Seq.{drop-cons, take_all, sets}
-use borrow.Author.Tests.{le-leb, lt-leb}
+use lib.ListN.{length, take, drop, length-map, drop_of_length-le}
+use lib.Seq.{take_all, sets}
 use Rattle.rows.specs.Laid.{laid}
 use Rattle.rows.proofs.Laid.{length_laid, front}
 use Rattle.rows.proofs.Stored.{stored_is}
@@ -14,46 +13,20 @@ use Rattle.utf8.specs.Decoding.{decoded, Decoded}
 use Rattle.utf8.proofs.Decoding.{all_laid, all_points}
 use Rattle.patterns.specs.Patterns.{byte_of, row_of, ShowsRow}
 
--- THE BYTE OF A CHARACTER
-pub byte_below : (c : ℕ) → c < 0x2800 → 255 ≡ byte_of c
-byte_below c h = rw (lt-leb 0x2800 c h) refl
-
-pub byte_above : (c : ℕ) → 0x28ff < c → 255 ≡ byte_of c
-byte_above c h = let l : 0x2800 ≤ c = omega (arith, h) in rw (le-leb 0x2800 c l, lt-leb c 0x28ff h) refl
-
-pub byte_within : (c : ℕ) → 0x2800 ≤ c → c ≤ 0x28ff → c - 0x2800 ≡ byte_of c
-byte_within c l h = rw (le-leb 0x2800 c l, le-leb c 0x28ff h) refl
-
 -- what is stored from the front on, where there is room for it
 pub stored_all : (v l : List ℕ) → length v ≤ length l → sets l 0 v ≡ laid v l
 stored_all v l h = stored_is v l ∙ ap (λ (w : List ℕ). laid w l) (take_all (length l) v h)
 
 -- BETWEEN TWO CHARACTERS
-pub record Mid (text lent row : List ℕ) (i : ℕ) : Type 0 where
-  pub inside : i ≤ length text
-  pub same : length row ≡ length lent
-  pub stored : sets row i (map byte_of (drop i text)) ≡ sets lent 0 (map byte_of text)
+abbrev pub Mid : List ℕ → List ℕ → List ℕ → ℕ → Type 0
+Mid text lent row i = sets row i (map byte_of (drop i text)) ≡ sets lent 0 (map byte_of text)
 
-module _ (text lent : List ℕ) where
-  pub mid_start : Mid text lent lent 0
-  mid_start = record { inside = omega arith; same = refl; stored = refl }
-
-  module _ (row : List ℕ) (i : ℕ) (m : Mid text lent row i) where
-    pub mid_on : (b : ℕ) → i < length text → b ≡ byte_of (get_or text i 0) → Mid text lent (set row i b) (i + 1)
-    mid_on b h e =
-        let one_on : i + 1 ≡ suc i = omega arith in
-        let on : map byte_of (drop i text) ≡ b ∷ map byte_of (drop (suc i) text) =
-        ap (map byte_of) (drop-cons text i 0 h) ∙ ap (λ (x : ℕ). x ∷ map byte_of (drop (suc i) text)) (sym e) in record {
-          inside = omega (arith, h);
-          same = length-set row i b ∙ m.same;
-          stored = rw one_on (sym (ap (λ (v : List ℕ). sets row i v) on) ∙ m.stored);
-        }
-
-    pub mid_done : length text ≤ i → length text ≤ length lent → row ≡ laid (map byte_of text) lent
-    mid_done h room =
-        let none : map byte_of (drop i text) ≡ [] = ap (map byte_of) (drop_of_length-le text {i = i} h) in
-        let fits : length (map byte_of text) ≤ length lent = rw (length-map text byte_of) room in
-        sym (ap (λ (v : List ℕ). sets row i v) none) ∙ m.stored ∙ stored_all (map byte_of text) lent fits
+module _ (text lent row : List ℕ) (i : ℕ) (m : Mid text lent row i) where
+  pub mid_done : length text ≤ i → length text ≤ length lent → row ≡ laid (map byte_of text) lent
+  mid_done h room =
+      let none : map byte_of (drop i text) ≡ [] = ap (map byte_of) (drop_of_length-le text {i = i} h) in
+      let fits : length (map byte_of text) ≤ length lent = rw (length-map text byte_of) room in
+      sym (ap (λ (v : List ℕ). sets row i v) none) ∙ m ∙ stored_all (map byte_of text) lent fits
 
 -- THE ENDS OF `row_of`: n code points were decoded into `text`, which is lent, and became `new`
 module _ (line text : List ℕ) (n : ℕ) (new : List ℕ) (room : length line ≤ length text) (d : Decoded line text n new) (few : n ≤ length line) where

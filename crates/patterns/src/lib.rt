@@ -17,13 +17,10 @@ const NO_PATTERN: u8 = 255;
 fn byte_of(point: u32) -> u8
     ensures { result ≡ byte_of point }
 {
-    if point < FIRST_PATTERN {
-        return NO_PATTERN;
+    match point {
+        FIRST_PATTERN..=LAST_PATTERN => (point - FIRST_PATTERN) as u8,
+        _ => NO_PATTERN,
     }
-    if LAST_PATTERN < point {
-        return NO_PATTERN;
-    }
-    (point - FIRST_PATTERN) as u8
 }
 
 // The row that a line of characters shows.
@@ -31,10 +28,8 @@ fn fill_row(text: &[u32], row: &mut [u8])
     requires { length text.now ≤ length row.old }
     ensures { row.new ≡ laid (map byte_of text.now) row.old }
 {
-    let mut i = 0;
-    while i < text.len() {
-        row[i] = byte_of(text[i]);
-        i += 1;
+    for (i, point) in text.iter().enumerate() {
+        row[i] = byte_of(*point);
     }
 }
 
