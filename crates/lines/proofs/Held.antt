@@ -4,18 +4,22 @@ use mathlib.Core.Bool.{Bool, true, false}
 use mathlib.Core.List.{List, [], ◌∷◌, ◌++◌, append_assoc}
 use mathlib.Core.Logic.{⊎_elim, ◌↔◌}
 use mathlib.Core.Path.{◌≡◌, refl, sym, ap, ◌∙◌}
-use Prim.Native.Nat.{ℕ, zero, suc, ◌+◌, ◌≤◌, ◌<◌, min}
+use Prim.Native.Nat.{ℕ, zero, suc, ◌+◌, ◌-◌, ◌≤◌, ◌<◌}
 use native.Mathlib.Numerals.{add-one}
 use native.Mathlib.Omega.{arith}
 use lib.Dec.{ltb}
 use borrow.Author.Tests.{ltb-true, ltb-false, lt-ltb, le-ltb}
 use lib.ListN.{length, take, drop, set, get_or, length-append, length-take, length-drop, take-append-drop, drop_of_length-le}
-use lib.Seq.{take-length, take-take, take_at, drop-cons, set_out}
+use lib.Seq.{take-length, take-take, take_at, take_all, drop-cons, drop-drop}
+use Rattle.std.proofs.Common.{Bor}
+use Rattle.std.specs.Prelude.{Option, Some, None}
+use Rattle.std.specs.Option.{UnwrapsOrElse}
+use Rattle.std.specs.Slice.{IsGetRangeResult}
 use Rattle.rows.specs.Laid.{laid}
 use Rattle.lines.specs.Lines.{line_end}
-use Rattle.lines.specs.Held.{part_of, passed, held_by, filled, Keeps, TakesIn, Moves, Holds, is_long}
+use Rattle.lines.specs.Held.{part_of, held_by, filled, Keeps, TakesIn, Holds, is_long}
 use Rattle.lines.specs.declared.Taken.{Taken}
-use Rattle.lines.proofs.Ends.{end_or_not, part_end, ends_end, passed_end, part_on, ends_on, passed_on}
+use Rattle.lines.proofs.Ends.{part_end, ends_end, passed_end, part_on, ends_on, passed_on}
 
 -- THE ROOM
 pub filled_none : (l : List ℕ) (n : ℕ) → filled l n [] ≡ l
@@ -60,66 +64,56 @@ keeps_on l n a h k b g new p q =
     q.stored ∙ ap (λ (m : ℕ). filled k m b) p.count ∙ ap (λ (r : List ℕ). filled r (held_by n (length l) (length a)) b) p.stored ∙ filled_append l n a b in
     record { count = count; stored = stored }
 
--- THE ENDS OF `hold`: the byte is stored, or there is no room
+-- THE END OF `hold` where there is room: the byte is stored
 pub hold_there : (l : List ℕ) (n b : ℕ) → n < length l → Keeps l n (b ∷ []) (n + 1) (set l n b)
 hold_there l n b h = record { count = omega arith; stored = filled_one l n b }
 
-pub hold_nowhere : (l : List ℕ) (n b h : ℕ) → length l ≤ n → h ≡ held_by n (length l) 1 → Keeps l n (b ∷ []) h l
-hold_nowhere l n b h full e = record { count = e; stored = sym (set_out l n b full) ∙ filled_one l n b }
+-- THE ENDS AND TURNS OF `take_in`, whose loop goes over the bytes from a place on: none left; a line end; another byte
+rest_from : (bytes : List ℕ) (from : ℕ) (r : Option (Bor (List ℕ))) (rest : Bor (List ℕ)) → IsGetRangeResult bytes from (length bytes) r
+    → UnwrapsOrElse r (λ x. x.now ≡ []) rest → rest.now ≡ drop from bytes
+rest_from bytes from None rest g e = e ∙ sym (drop_of_length-le bytes {i = from} (⊎_elim (λ h. omega (arith, h)) (λ h. absurd (omega (arith, h))) g.0))
+rest_from bytes from (Some x) rest g e = ap (λ (y : Bor (List ℕ)). y.now) e ∙ g.0.2 ∙ take_all (length bytes - from) (drop from bytes) (omega (arith, length-drop from bytes))
 
--- THE ENDS AND TURNS OF `take_in`: nothing left; a line end; another byte
-module _ (bytes : List ℕ) (at : ℕ) (room : List ℕ) (held : ℕ) where
-  pub takes_none : length bytes ≤ at → TakesIn bytes at room held (record { next = at; held = held; ended = false }) room
-  takes_none h =
-      let e : drop at bytes ≡ [] = drop_of_length-le bytes h in
+module _ (bytes : List ℕ) (from : ℕ) (r : Option (Bor (List ℕ))) (left : Bor (List ℕ)) (got : IsGetRangeResult bytes from (length bytes) r)
+    (or_none : UnwrapsOrElse r (λ x. x.now ≡ []) left) (k : ℕ) (room : List ℕ) (held : ℕ) where
+  abbrev rest : List ℕ
+  rest = left.now
+
+  is : rest ≡ drop from bytes
+  is = rest_from bytes from r left got or_none
+
+  left_is : (i : ℕ) → drop i rest ≡ drop (from + i) bytes
+  left_is i = rw is (drop-drop i from bytes)
+
+  pub takes_none : length rest ≤ k → k ≤ length rest → TakesIn bytes (from + k) room held (record { next = from + length rest; held = held; ended = false }) room
+  takes_none h l =
+      let e : drop (from + k) bytes ≡ [] = sym (left_is k) ∙ drop_of_length-le rest {i = k} h in
       record {
-        next = rw e (omega arith);
+        next = rw e (omega (arith, h, l));
         ended = rw e;
         keeps = rw e (keeps_none room held);
       }
 
-  module _ (some : at < length bytes) where
-    rest_is : drop at bytes ≡ get_or bytes at 0 ∷ drop (at + 1) bytes
-    rest_is = rw (add-one, drop-cons bytes at 0)
+  module _ (some : k < length rest) where
+    left_more : drop (from + k) bytes ≡ get_or rest k 0 ∷ drop (from + (k + 1)) bytes
+    left_more = sym (left_is k) ∙ drop-cons rest k 0 some ∙ ap (λ (t : List ℕ). get_or rest k 0 ∷ t) (rw (add-one k) (left_is (suc k)))
 
-    pub takes_end : get_or bytes at 0 ≡ line_end → TakesIn bytes at room held (record { next = at + 1; held = held; ended = true }) room
+    pub takes_end : get_or rest k 0 ≡ line_end → TakesIn bytes (from + k) room held (record { next = from + k + 1; held = held; ended = true }) room
     takes_end e = record {
-      next = rw (rest_is, passed_end (get_or bytes at 0) (drop (at + 1) bytes) e);
-      ended = rw (rest_is, ends_end (get_or bytes at 0) (drop (at + 1) bytes) e);
-      keeps = rw (rest_is, part_end (get_or bytes at 0) (drop (at + 1) bytes) e) (keeps_none room held);
+      next = rw (left_more, passed_end (get_or rest k 0) (drop (from + (k + 1)) bytes) e);
+      ended = rw (left_more, ends_end (get_or rest k 0) (drop (from + (k + 1)) bytes) e);
+      keeps = rw (left_more, part_end (get_or rest k 0) (drop (from + (k + 1)) bytes) e) (keeps_none room held);
     }
 
-    pub takes_byte : (get_or bytes at 0 ≡ line_end → ⊥) → (h : ℕ) (kept : List ℕ) → Keeps room held (get_or bytes at 0 ∷ []) h kept
-        → (t : Taken) (new : List ℕ) → TakesIn bytes (at + 1) kept h t new → TakesIn bytes at room held t new
-    takes_byte n h kept k t new p = record {
-      next = rw (rest_is, passed_on (get_or bytes at 0) (drop (at + 1) bytes) n) (omega (arith, p.next));
-      ended = rw (rest_is, ends_on (get_or bytes at 0) (drop (at + 1) bytes) n) p.ended;
+    pub takes_byte : (get_or rest k 0 ≡ line_end → ⊥) → (h : ℕ) (kept : List ℕ) → Keeps room held (get_or rest k 0 ∷ []) h kept
+        → (t : Taken) (new : List ℕ) → TakesIn bytes (from + (k + 1)) kept h t new → TakesIn bytes (from + k) room held t new
+    takes_byte n h kept q t new p = record {
+      next = rw (left_more, passed_on (get_or rest k 0) (drop (from + (k + 1)) bytes) n) (omega (arith, p.next));
+      ended = rw (left_more, ends_on (get_or rest k 0) (drop (from + (k + 1)) bytes) n) p.ended;
       keeps =
-          rw (rest_is, part_on (get_or bytes at 0) (drop (at + 1) bytes) n)
-          (keeps_on room held (get_or bytes at 0 ∷ []) h kept (part_of (drop (at + 1) bytes)) t.held new k p.keeps);
+          rw (left_more, part_on (get_or rest k 0) (drop (from + (k + 1)) bytes) n)
+          (keeps_on room held (get_or rest k 0 ∷ []) h kept (part_of (drop (from + (k + 1)) bytes)) t.held new q p.keeps);
     }
-
--- WHAT OF THE PROMISE A LOOP NEEDS: of some bytes at least one is passed, and never more than there are
-passed_le : (bs : List ℕ) → passed bs ≤ length bs
-passed_le [] = omega arith
-passed_le (b ∷ bs) =
-    ⊎_elim (λ e. rw (passed_end b bs e) (omega arith)) (λ n. rw (passed_on b bs n) (omega (arith, passed_le bs))) (end_or_not b)
-
-passed_some : (bs : List ℕ) → min 1 (length bs) ≤ passed bs
-passed_some [] = omega arith
-passed_some (b ∷ bs) = ⊎_elim (λ e. rw (passed_end b bs e) (omega arith)) (λ n. rw (passed_on b bs n) (omega arith)) (end_or_not b)
-
-module _ (bytes : List ℕ) (from : ℕ) (room : List ℕ) (held : ℕ) (t : Taken) (new : List ℕ) (p : TakesIn bytes from room held t new) where
-  pub moves_of : Moves bytes from room t new
-  moves_of =
-      let few = passed_le (drop from bytes) in
-      let some = passed_some (drop from bytes) in
-      let left = length-drop from bytes in
-      record {
-        on = omega (arith, p.next);
-        within = omega (arith, p.next);
-        same = keeps_length room held (part_of (drop from bytes)) t.held new p.keeps;
-      }
 
 -- ONE OUTCOME
 pub taken_same :

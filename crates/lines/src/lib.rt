@@ -5,11 +5,14 @@
 ghost use Rattle.std.specs.Prelude.{◌≡◌, [], ◌∷◌};
 ghost use Rattle.lines.specs.Held.{Keeps, TakesIn, Moves, is_long};
 
+use std::cmp::Ordering;
+
 // "Byte 10 ends a line"
 const LINE_END: u8 = 10;
 
-// What was taken in. `next`: the place behind it. `held`: how many bytes of the line are counted; one more than the room has says that the line is longer.
-// `ended`: whether the line has ended.
+// What was taken in. `next`: the place behind it. `held`: how many bytes of the line are counted; one more than the room has says that the line is longer. It
+// stays a number, since `take_in` answers for any, and what a room shows (specs/Held.antt) is said by it. `ended`: whether the line has ended. It stays beside
+// the others, since both say the same whether it has or not.
 #[derive(Clone, Copy)]
 pub struct Taken {
     pub next: usize,
@@ -21,14 +24,14 @@ pub struct Taken {
 fn hold(line: &mut [u8], held: usize, byte: u8) -> usize
     ensures { Keeps line.old held (byte ∷ []) result line.new }
 {
-    if held < line.len() {
-        line[held] = byte;
-        return held + 1;
+    match held.cmp(&line.len()) {
+        Ordering::Less => {
+            line[held] = byte;
+            held + 1
+        }
+        Ordering::Equal => held + 1,
+        Ordering::Greater => held,
     }
-    if held == line.len() {
-        return held + 1;
-    }
-    held
 }
 
 // Takes in the bytes from `from` on, up to the end of the line or of the bytes, behind the `held` bytes of the line that `line` holds already. The answer and
@@ -38,22 +41,20 @@ pub fn take_in(bytes: &[u8], from: usize, line: &mut [u8], held: usize) -> Taken
     ensures takes { TakesIn bytes.now from line.old held result line.new }
     ensures moves { Moves bytes.now from line.old result line.new }
 {
-    let mut at = from;
+    let rest = bytes.get(from..).unwrap_or_default();
     let mut count = held;
-    while at < bytes.len() {
-        let byte = bytes[at];
-        at += 1;
-        if byte == LINE_END {
+    for (passed, byte) in rest.iter().enumerate() {
+        if *byte == LINE_END {
             return Taken {
-                next: at,
+                next: from + passed + 1,
                 held: count,
                 ended: true,
             };
         }
-        count = hold(line, count, byte);
+        count = hold(line, count, *byte);
     }
     Taken {
-        next: at,
+        next: from + rest.len(),
         held: count,
         ended: false,
     }
