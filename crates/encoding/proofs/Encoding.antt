@@ -5,7 +5,7 @@ use mathlib.Core.Logic.{inl, inr}
 use mathlib.Core.Path.{◌≡◌, refl, sym, ap, ◌∙◌}
 use Prim.Native.Nat.{ℕ, ◌+◌, ◌/◌, ◌%◌, ◌≤◌, ◌<◌, min}
 use native.Mathlib.Omega.{arith}
-use lib.ListN.{length, take, drop, length-take}
+use lib.ListN.{length, take, drop, set, length-take}
 use lib.Seq.{sets}
 use lib.Dec.{leb, ltb}
 use borrow.Author.Tests.{lt-ltb, le-ltb, lt-leb, le-leb, ltb-true, leb-true}
@@ -51,6 +51,10 @@ put_is row l front fits e f = rw (f, e, take_min (length l) row, sym (length-tak
 -- a row that is another
 pub wrote_as : {row same l : List ℕ} {r : ℕ} {m : List ℕ} → row ≡ same → Wrote same l r m → Wrote row l r m
 wrote_as e w = rw e w
+
+-- what is stored one behind another, four bytes at most, is written so too
+pub wrote_four : (row l m n o q : List ℕ) (a b c d : ℕ) → m ≡ set l 0 a → n ≡ set m 1 b → o ≡ set n 2 c → q ≡ set o 3 d → row ≡ a ∷ b ∷ c ∷ d ∷ [] → Wrote row l 4 q
+wrote_four row l m n o q a b c d e f g h is = rw (is, h, g, f, e) (record { count = refl; few = omega arith; stored = refl })
 
 -- THE ENDS OF `encode`
 pub encoded : (c : ℕ) (row l : List ℕ) (r : ℕ) (new : List ℕ) → encoded_of c ≡ row → Wrote row l r new → Encoded c l r new × (r ≤ 4)

@@ -1,7 +1,7 @@
 -- `sequence_at`: the first byte's line of the table, then the later bytes that it asks for. Assumes nothing.
 use mathlib.Core.Logic.{⊎_elim}
 use native.Mathlib.Omega.{arith}
-use Rattle.sequences.proofs.Sequences.{too_few, none_joined, next_whole}
+use Rattle.sequences.proofs.Sequences.{too_few, none_joined, whole_joined}
 use Rattle.sequences.proofs.sequence_at.Goals as goal
 
 pub returns-in_err-later : goal.returns-in_err-later
@@ -15,4 +15,4 @@ returns-in_err-point c =
     (none_joined c.args.bytes.now c.args.at c.requires c.in_ok-lead.lead c.in_ok-lead.ensures c.in_ok-later.later.now c.in_ok-later.ensures.lookup.0.2 c.in_err-point.ensures)
 
 pub returns : goal.returns
-returns c = next_whole c.args.bytes.now c.args.at c.requires c.in_ok-lead.lead c.in_ok-lead.ensures c.in_ok-later.later.now c.in_ok-later.ensures.lookup.0.2 c.in_ok-point.point c.in_ok-later.ensures.lookup.0.1 c.in_ok-point.ensures
+returns c = whole_joined c.args.bytes.now c.args.at c.requires c.in_ok-lead.lead c.in_ok-lead.ensures c.in_ok-later.later.now c.in_ok-later.ensures.lookup.0.2 c.in_ok-point.point c.in_ok-point.ensures
