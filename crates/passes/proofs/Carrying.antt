@@ -24,9 +24,8 @@ use Rattle.turns.specs.Ahead.{future_at}
 use Rattle.turns.proofs.Ahead.{future_step}
 use Rattle.passes.specs.Middle.{Mid, Carried}
 use Rattle.passes.specs.Passes.{sign_by}
-use Rattle.passes.specs.declared.Reached.{Reached}
 use Rattle.passes.proofs.Going.{Held, ahead}
-use Rattle.passes.proofs.Drawing.{Passed, passed_none, passed_usual, went_deed, went_usual, mid_on}
+use Rattle.passes.proofs.Drawing.{passed_none, passed_usual, went_deed, went_usual, mid_on}
 
 -- a capital is no pair mark
 capital_unmarked : (s : Sort) → class_number (class s) ≡ class_number capital → mark_of s ≡ none

@@ -3,7 +3,7 @@
 // `transcribe_normal` is what other crates call; what the functions promise is specs/Passes.antt.
 #![tactic(auto)]
 
-ghost use Rattle.std.specs.Prelude.{◌≡◌, ◌≤◌, ◌<◌, ◌*◌, length, take};
+ghost use Rattle.std.specs.Prelude.{◌≡◌, ◌≤◌, ◌<◌, ◌*◌, length, take, Ok};
 ghost use Rattle.rules.specs.Castilian.{castilian};
 ghost use Rattle.rules.specs.Refusals.{longest_text};
 ghost use Rattle.rules.proofs.Plain.{plainly};
@@ -17,13 +17,11 @@ use deeds::{
     QUESTIONS, SEPARATED, WAYS,
 };
 use entries::{CAPITAL, CAPITALS, FREE, MIXED};
-use pairs::Pairs;
 
-// The answer to a print. `Done` has the count of cells written; any other is a refusal, and the lent row is then as it was. Paper 01's number and second
-// number for each are given with the promise (`refusal_of` of the crate `transcriber`).
-#[derive(Clone, Copy)]
-pub enum Answer {
-    Done(usize),
+// Why a print is refused; the lent row is then as it was. Paper 01's number and second number for each are given with the promise (`refusal_of` of the crate
+// `transcriber`).
+#[derive(Clone, Copy, PartialEq, Eq)]
+pub enum Refusal {
     // the normalised text is above 4,096 code points: its length
     TooLong(usize),
     // a code point with no sign: its place
@@ -36,13 +34,6 @@ pub enum Answer {
     SharesCells(usize),
     // the row needs more room than lent: the room needed
     NeedsRoom(usize),
-}
-
-// What the first pass finds: the count of cells, or the first refusal.
-#[derive(Clone, Copy)]
-pub enum Measured {
-    Cells(usize),
-    Refused(Answer),
 }
 
 // Where the first pass comes to before it has to ask: a place, the word of the code point there (NO_ENTRY at the end), the state there and the count of the cells
@@ -108,13 +99,13 @@ fn is_small_among_capitals(state: usize, entry: u64) -> bool
 }
 
 // The refusal of a deed that is a fault.
-fn fault_of(deed: usize, place: usize) -> Answer
+fn fault_of(deed: usize, place: usize) -> Refusal
     ensures { result ≡ fault_by deed place }
 {
     match deed {
-        NO_SIGN => Answer::NoSign(place),
-        OUTSIDE_FORM => Answer::OutsideForm(place),
-        _ => Answer::SharesCells(place),
+        NO_SIGN => Refusal::NoSign(place),
+        OUTSIDE_FORM => Refusal::OutsideForm(place),
+        _ => Refusal::SharesCells(place),
     }
 }
 
@@ -126,13 +117,12 @@ fn draw_usual(text: &[u32], signs: &mut [u32], from: usize, begun: usize, counte
 {
     let mut state: usize = begun;
     let mut n: usize = counted;
-    let mut i: usize = from;
-    while i < text.len() {
+    for i in from..text.len() {
         let entry = entries::entry_of(text[i]);
         if entries::is_usual(entry, state) {
             let sign = entries::sign_in(entry);
             signs[i] = sign;
-            n = n + entries::sign::count_of(sign);
+            n += entries::sign::count_of(sign);
             state = entries::then_in(entry);
         } else {
             if state != MIXED || entries::class_in(entry) != CAPITAL {
@@ -144,12 +134,11 @@ fn draw_usual(text: &[u32], signs: &mut [u32], from: usize, begun: usize, counte
                 };
             }
             signs[i] = sign_of(ONE_CAPITAL, entry);
-            n = n + 2;
+            n += 2;
         }
-        i += 1;
     }
     Reached {
-        place: i,
+        place: text.len(),
         entry: NO_ENTRY,
         state,
         cells: n,
@@ -161,7 +150,7 @@ fn draw_usual(text: &[u32], signs: &mut [u32], from: usize, begun: usize, counte
 // 46 before it.": a run that begins with two capitals is supposed to be of capitals only, and drawn so. Where a small letter then stands in it, the sign of its first
 // capital is made anew, and the run is drawn again from behind that. (So a run of capitals only is read once: docs/DECISIONS.md, 31. The state is CAPITALS at the head
 // of the loop only where such a run has just begun, so that its first capital is at i - 1.)
-fn draw(text: &[u32], signs: &mut [u32]) -> Measured
+fn draw(text: &[u32], signs: &mut [u32]) -> Result<usize, Refusal>
     requires { (length text.now ≤ longest_text) × (length text.now ≤ length signs.old) }
     ensures { (result ≡ measured_of castilian (plainly text.now)) × Drawn result castilian (plainly text.now) (take (length text.now) signs.new) }
 {
@@ -174,14 +163,14 @@ fn draw(text: &[u32], signs: &mut [u32]) -> Measured
         if reached.place < text.len() {
             if is_small_among_capitals(reached.state, reached.entry) {
                 signs[i - 1] = alone(signs[i - 1]);
-                n = n - 1;
+                n -= 1;
                 state = MIXED;
             } else {
                 i = reached.place;
                 let mark = entries::mark_in(reached.entry);
                 if mark != 0 {
-                    let Pairs::Stand(now_open) = pairs::pairs_after(opened, mark) else {
-                        return Measured::Refused(Answer::PairBroken(i));
+                    let Some(now_open) = pairs::pairs_after(opened, mark) else {
+                        return Err(Refusal::PairBroken(i));
                     };
                     opened = now_open;
                 }
@@ -192,7 +181,7 @@ fn draw(text: &[u32], signs: &mut [u32]) -> Measured
                     turns::settled(text, i + 1, told)
                 };
                 if QUESTIONS <= deed {
-                    return Measured::Refused(fault_of(deed, i));
+                    return Err(fault_of(deed, i));
                 }
                 let sign = sign_of(deed % WAYS, reached.entry);
                 signs[i] = sign;
@@ -207,47 +196,51 @@ fn draw(text: &[u32], signs: &mut [u32]) -> Measured
         }
     }
     if opened == 0 {
-        return Measured::Cells(n);
+        Ok(n)
+    } else {
+        Err(Refusal::PairBroken(i))
     }
-    Measured::Refused(Answer::PairBroken(i))
 }
 
 // Signs of n cells, written if they fit.
-fn fitted(signs: &[u32], row: &mut [u8], n: usize) -> Answer
+fn fitted(signs: &[u32], row: &mut [u8], n: usize) -> Result<usize, Refusal>
     requires { n ≡ length (joined signs.now) }
-    ensures { (result ≡ fitted_by (Measured.Cells n) (length row.old)) × (row.new ≡ written_by (Measured.Cells n) (joined signs.now) row.old) }
+    ensures { (result ≡ fitted_by (Ok n) (length row.old)) × (row.new ≡ written_by (Ok n) (joined signs.now) row.old) }
 {
     if row.len() < n {
-        return Answer::NeedsRoom(n);
+        return Err(Refusal::NeedsRoom(n));
     }
-    Answer::Done(writing::write(signs, row))
+    Ok(writing::write(signs, row))
 }
 
 // A text that is normalised, or that is so with « for “, with room for a sign for each of its code points.
-fn transcribe_by(text: &[u32], signs: &mut [u32], row: &mut [u8]) -> Answer
+fn transcribe_by(text: &[u32], signs: &mut [u32], row: &mut [u8]) -> Result<usize, Refusal>
     requires { (length text.now ≤ longest_text) × (length text.now ≤ length signs.old) }
     ensures { (result ≡ answer_of castilian (plainly text.now) (length row.old)) × (row.new ≡ out_of castilian (plainly text.now) row.old) }
 {
-    let measured = draw(text, signs);
-    match measured {
-        Measured::Cells(n) => fitted(&signs[..text.len()], row, n),
-        Measured::Refused(answer) => answer,
-    }
+    let n = draw(text, signs)?;
+    fitted(&signs[..text.len()], row, n)
 }
 
-// The same, with an array for the signs, so that a caller lends nothing but the text and the row.
-pub fn transcribe_normal(text: &[u32], row: &mut [u8]) -> Answer
+// The same, with an array of N signs.
+fn transcribe_with<const N: usize>(text: &[u32], row: &mut [u8]) -> Result<usize, Refusal>
+    requires { (length text.now ≤ N) × (N ≤ longest_text) }
+    ensures { (result ≡ answer_of castilian (plainly text.now) (length row.old)) × (row.new ≡ out_of castilian (plainly text.now) row.old) }
+{
+    let mut signs = [0u32; N];
+    transcribe_by(text, &mut signs, row)
+}
+
+// The same, with an array that is long enough, so that a caller lends nothing but the text and the row. The answer is the count of cells written.
+pub fn transcribe_normal(text: &[u32], row: &mut [u8]) -> Result<usize, Refusal>
     requires { length text.now ≤ longest_text }
     ensures { (result ≡ answer_of castilian (plainly text.now) (length row.old)) × (row.new ≡ out_of castilian (plainly text.now) row.old) }
 {
     if text.len() <= LINE {
-        let mut signs = [0u32; LINE];
-        return transcribe_by(text, &mut signs, row);
+        transcribe_with::<LINE>(text, row)
+    } else if text.len() <= PARAGRAPH {
+        transcribe_with::<PARAGRAPH>(text, row)
+    } else {
+        transcribe_with::<LONGEST_TEXT>(text, row)
     }
-    if text.len() <= PARAGRAPH {
-        let mut signs = [0u32; PARAGRAPH];
-        return transcribe_by(text, &mut signs, row);
-    }
-    let mut signs = [0u32; LONGEST_TEXT];
-    transcribe_by(text, &mut signs, row)
 }

@@ -22,11 +22,11 @@ use Rattle.turns.specs.Ahead.{future_at}
 use Rattle.turns.proofs.Ahead.{future_plainly}
 use Rattle.writing.specs.Joined.{joined}
 use Rattle.passes.specs.Passes.{sign_by, small_among_capitals, measured_of}
-use Rattle.passes.specs.declared.Measured.TheVariants.{Cells, Refused}
+use Rattle.std.specs.Prelude.{Ok, Err}
 use Rattle.passes.proofs.Going.{held}
 use Rattle.passes.specs.Middle.{Mid}
 use Rattle.passes.proofs.Drawing.{Passed, some_number, passed_none, passed_mark, not_passed, mark_small, act_is, mid_start, mid_broken, mid_fault, mid_done, mid_open}
-use Rattle.passes.proofs.Supposing.{supposing, was_supposed, some_place, some_cell, undone, stood, stood_at_end, at_end, turned, fault_settled, left, less_anew, less_on}
+use Rattle.passes.proofs.Supposing.{supposing, was_supposed, some_place, some_cell, undone, stood, stood_at_end, at_end, turned, fault_settled, less_anew, less_on}
 use Rattle.passes.proofs.draw.Goals as goal
 use Rattle.passes.proofs.draw.Lts as lts
 use Rattle.passes.proofs.draw.Tie as tie
@@ -186,7 +186,7 @@ passed c =
     ⊎_elim
     (λ j. subst (Passed castilian t o (place r)) (sym j.opened-is)
     (passed_mark castilian held t o (place r) few a.mark_in-mark.result (mark_is a) (some_number a.mark_in-mark.result j.if-mark-ne0.true) _
-    (sym j.pairs_after.ensures ∙ j.in-Stand.is)))
+    (sym j.pairs_after.ensures ∙ j.in-Some.is)))
     (λ j. passed_none castilian held t o (place r) few (sym (mark_is a) ∙ j.if-mark-ne0.false) c.if-mark-ne0.opened j.opened-is) c.if-mark-ne0.branch-raw
 
 -- the deed is known
@@ -290,7 +290,7 @@ returns-then-deed-ge-QUESTIONS c =
     let r = at-d d in
     let l = at-r r in
     let deed = d.if-told-lt-QUESTIONS.deed in (
-      ap Refused c.before.fault_of.ensures
+      ap Err c.before.fault_of.ensures
           ∙ mid_fault castilian held (text l) (signs₀ l) (signs r) l.loop-i.opened (state r) (cells r) (place r) (mid a) (inside (from-m a)) (from-d d).if-mark-ne0.opened
           (passed (from-d d)) deed
           (act_is castilian held (text l) (mid a).past (place r) (state r) (mid a).at deed
@@ -362,12 +362,12 @@ all-mid c =
 pub returns-then-opened-eq0 : goal.returns-then-opened-eq0
 returns-then-opened-eq0 c =
     let l = c.before.before.before in
-    subst (λ (n : ℕ). (Cells l.loop-i.n ≡ measured_of castilian (text l)) × (joined (take n l.loop-i.signs) ≡ whole_row castilian (text l))) (long l)
+    subst (λ (n : ℕ). (Ok l.loop-i.n ≡ measured_of castilian (text l)) × (joined (take n l.loop-i.signs) ≡ whole_row castilian (text l))) (long l)
     (mid_done castilian held (text l) (signs₀ l) l.loop-i.signs l.loop-i.opened l.loop-i.state l.loop-i.n l.loop-i.i (all-mid c.before.before)
     (ended l c.before.before.loop-i-test.false) c.before.if-opened-eq0.true)
 
-pub returns : goal.returns
-returns c =
+pub returns-else-opened-eq0 : goal.returns-else-opened-eq0
+returns-else-opened-eq0 c =
     let l = c.before.before.before in (
       mid_open castilian held (text l) (signs₀ l) l.loop-i.signs l.loop-i.opened l.loop-i.state l.loop-i.n l.loop-i.i (all-mid c.before.before)
           (ended l c.before.before.loop-i-test.false) c.before.if-opened-eq0.false,

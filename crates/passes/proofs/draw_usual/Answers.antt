@@ -1,12 +1,9 @@
--- `draw_usual`: between two turns the pass has come on from where it began, whatever pairs are open (`Under`). The measure is how much of the text is left.
--- Assumes nothing.
+-- `draw_usual`: between two turns the pass has come on from where it began, whatever pairs are open (`Under`). Assumes nothing.
 use mathlib.Core.Path.{◌≡◌, refl, sym, ap, ◌∙◌, subst}
 use mathlib.Core.List.{List}
 use mathlib.Core.Logic.{inl, inr}
-use Prim.Native.Nat.{ℕ, ◌+◌, ◌-◌, ◌≤◌, ◌<◌}
+use Prim.Native.Nat.{ℕ, ◌+◌, ◌≤◌, ◌<◌}
 use native.Mathlib.Omega.{arith}
-use lib.Dec.{eqb, eqb→eq}
-use borrow.Author.Tests.{not-false}
 use lib.ListN.{length, get_or}
 use Rattle.rules.specs.Castilian.{castilian}
 use Rattle.rules.proofs.Plain.{plainly, plainly_length, plainly_at}
@@ -117,5 +114,8 @@ pub returns : goal.returns
 returns c =
     let l = c.before.before in
     let s = start l in
-    reached castilian held (text l) s.args.signs.now s.args.begun s.args.counted s.args.from l.loop-i.signs l.loop-i.state l.loop-i.n l.loop-i.i l.loop-i.invariant
-    0 (λ k. absurd (omega (arith, k, long l, c.before.loop-i-test.false))) (λ k. absurd (omega (arith, k, long l, c.before.loop-i-test.false)))
+    let at-end : l.loop-i.i ≡ length (print l) = omega (arith, l.loop-i.invariant.inside, long l, c.before.loop-i-test.false) in
+    subst (λ (k : ℕ). Carried castilian (text l) s.args.signs.now l.loop-i.signs s.args.begun s.args.counted s.args.from
+    (record { place = k; entry = 0; state = l.loop-i.state; cells = l.loop-i.n })) at-end
+    (reached castilian held (text l) s.args.signs.now s.args.begun s.args.counted s.args.from l.loop-i.signs l.loop-i.state l.loop-i.n l.loop-i.i l.loop-i.invariant
+    0 (λ k. absurd (omega (arith, k, long l, c.before.loop-i-test.false))) (λ k. absurd (omega (arith, k, long l, c.before.loop-i-test.false))))
