@@ -62,7 +62,7 @@ refuses_same x y e = cc
 gives_not_refuses : {B : Type 0} {r : Row} {x : Refusal} → gives r ≡ refuses x → B
 gives_not_refuses e = let z : ◌≡◌ {A = ℕ} 0 1 = cc in absurd (omega arith)
 
-done_same : (m n : ℕ) → Ok m ≡ Ok n → m ≡ n
+done_same : (m n : ℕ) → ◌≡◌ {A = Answer} (Ok m) (Ok n) → m ≡ n
 done_same m n e = cc
 
 -- behind what was laid all is as it was
