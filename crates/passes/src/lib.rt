@@ -36,12 +36,12 @@ pub enum Refusal {
     NeedsRoom(usize),
 }
 
-// Where the first pass comes to before it has to ask: a place, the word of the code point there (NO_ENTRY at the end), the state there and the count of the cells
-// up to it. (So no code point is looked up twice.)
+// Where the first pass comes to before it has to ask: a place, the word of the code point there (none at the end), the state there and the count of the cells up to
+// it. (So no code point is looked up twice.)
 #[derive(Clone, Copy)]
 pub struct Reached {
     pub place: usize,
-    pub entry: u64,
+    pub entry: Option<u64>,
     pub state: usize,
     pub cells: usize,
 }
@@ -60,9 +60,6 @@ const DOTS_46: u8 = 40;
 const DOTS_5: u8 = 16;
 
 const DOTS_3456: u8 = 60;
-
-// No code point's word: at the text's end.
-const NO_ENTRY: u64 = 0;
 
 // The sign of a code point that has a cell of its own and is written without: the full stop of an ordinal.
 const NO_CELL: u32 = 0;
@@ -90,8 +87,7 @@ fn alone(sign: u32) -> u32
     entries::sign::two_cells(DOTS_46, entries::sign::third_of(sign))
 }
 
-// Is it a small letter in a run that is supposed to be of capitals only? (The classes below CAPITAL are those of small letters. It is asked of no place but the text's:
-// NO_ENTRY has such a class.)
+// Is it a small letter in a run that is supposed to be of capitals only? (The classes below CAPITAL are those of small letters.)
 fn is_small_among_capitals(state: usize, entry: u64) -> bool
     ensures { result ≡ small_among_capitals state entry }
 {
@@ -128,7 +124,7 @@ fn draw_usual(text: &[u32], signs: &mut [u32], from: usize, begun: usize, counte
             if state != MIXED || entries::class_in(entry) != CAPITAL {
                 return Reached {
                     place: i,
-                    entry,
+                    entry: Some(entry),
                     state,
                     cells: n,
                 };
@@ -139,7 +135,7 @@ fn draw_usual(text: &[u32], signs: &mut [u32], from: usize, begun: usize, counte
     }
     Reached {
         place: text.len(),
-        entry: NO_ENTRY,
+        entry: None,
         state,
         cells: n,
     }
@@ -149,7 +145,7 @@ fn draw_usual(text: &[u32], signs: &mut [u32], from: usize, begun: usize, counte
 // is read only where the table has a question. "If it has two letters or more and all are capitals, 46-46 stands once before it. Otherwise every capital in it has
 // 46 before it.": a run that begins with two capitals is supposed to be of capitals only, and drawn so. Where a small letter then stands in it, the sign of its first
 // capital is made anew, and the run is drawn again from behind that. (So a run of capitals only is read once: docs/DECISIONS.md, 31. The state is CAPITALS at the head
-// of the loop only where such a run has just begun, so that its first capital is at i - 1.)
+// of the loop only where such a run has just begun, so that its first capital is at i - 1. Since the loop goes back, it is no `for`.)
 fn draw(text: &[u32], signs: &mut [u32]) -> Result<usize, Refusal>
     requires { (length text.now ≤ longest_text) × (length text.now ≤ length signs.old) }
     ensures { (result ≡ measured_of castilian (plainly text.now)) × Drawn result castilian (plainly text.now) (take (length text.now) signs.new) }
@@ -160,21 +156,27 @@ fn draw(text: &[u32], signs: &mut [u32]) -> Result<usize, Refusal>
     let mut i: usize = 0;
     while i < text.len() {
         let reached = draw_usual(text, signs, i, state, n);
-        if reached.place < text.len() {
-            if is_small_among_capitals(reached.state, reached.entry) {
+        match reached.entry {
+            None => {
+                i = reached.place;
+                n = reached.cells;
+                state = reached.state;
+            }
+            Some(entry) if is_small_among_capitals(reached.state, entry) => {
                 signs[i - 1] = alone(signs[i - 1]);
                 n -= 1;
                 state = MIXED;
-            } else {
+            }
+            Some(entry) => {
                 i = reached.place;
-                let mark = entries::mark_in(reached.entry);
+                let mark = entries::mark_in(entry);
                 if mark != 0 {
                     let Some(now_open) = pairs::pairs_after(opened, mark) else {
                         return Err(Refusal::PairBroken(i));
                     };
                     opened = now_open;
                 }
-                let told = deeds::deed_of(reached.state, entries::class_in(reached.entry));
+                let told = deeds::deed_of(reached.state, entries::class_in(entry));
                 let deed = if told < QUESTIONS {
                     told
                 } else {
@@ -183,16 +185,12 @@ fn draw(text: &[u32], signs: &mut [u32]) -> Result<usize, Refusal>
                 if QUESTIONS <= deed {
                     return Err(fault_of(deed, i));
                 }
-                let sign = sign_of(deed % WAYS, reached.entry);
+                let sign = sign_of(deed % WAYS, entry);
                 signs[i] = sign;
                 n = reached.cells + entries::sign::count_of(sign);
                 state = deed / WAYS;
                 i += 1;
             }
-        } else {
-            i = reached.place;
-            n = reached.cells;
-            state = reached.state;
         }
     }
     if opened == 0 {
