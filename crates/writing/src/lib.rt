@@ -14,7 +14,7 @@ fn put_cell(row: &mut [u8], cell: u8)
     row[0] = cell;
 }
 
-// Writes the cells of any sign there.
+// Writes the cells of any sign there. (Two and three cells go by one arm: four arms would be a table of jumps, which is slower.)
 fn put_cells(row: &mut [u8], sign: u32)
     requires { length (cells_in sign) ≤ length row.old }
     ensures { row.new ≡ laid (cells_in sign) row.old }
@@ -22,14 +22,12 @@ fn put_cells(row: &mut [u8], sign: u32)
     match entries::sign::count_of(sign) {
         0 => {}
         1 => row[0] = entries::sign::first_of(sign),
-        2 => {
+        count => {
             row[0] = entries::sign::first_of(sign);
             row[1] = entries::sign::second_of(sign);
-        }
-        _ => {
-            row[0] = entries::sign::first_of(sign);
-            row[1] = entries::sign::second_of(sign);
-            row[2] = entries::sign::third_of(sign);
+            if count == 3 {
+                row[2] = entries::sign::third_of(sign);
+            }
         }
     }
 }

@@ -10,21 +10,6 @@ use Rattle.writing.proofs.put_cells.Goals as goal
 pub bounds-row-0 : goal.bounds-row-0
 bounds-row-0 c = omega (arith, cells_length c.args.sign)
 
-pub bounds-row-0-in-2 : goal.bounds-row-0-in-2
-bounds-row-0-in-2 c = omega (arith, cells_length c.args.sign)
-
-pub bounds-row-1 : goal.bounds-row-1
-bounds-row-1 c = simp length-set (omega (arith, cells_length c.args.sign))
-
-pub bounds-row-0-in_default : goal.bounds-row-0-in_default
-bounds-row-0-in_default c = omega (arith, cells_length c.args.sign)
-
-pub bounds-row-1-in_default : goal.bounds-row-1-in_default
-bounds-row-1-in_default c = simp length-set (omega (arith, cells_length c.args.sign))
-
-pub bounds-row-2 : goal.bounds-row-2
-bounds-row-2 c = simp length-set (omega (arith, cells_length c.args.sign))
-
 pub returns-in-0 : goal.returns-in-0
 returns-in-0 c = wrote_none (cells_in c.args.sign) c.args.row.now (own_none c.args.sign (sym c.count_of.ensures.0 ∙ c.in-0.is))
 
@@ -32,13 +17,22 @@ pub returns-in-1 : goal.returns-in-1
 returns-in-1 c =
     wrote_one (cells_in c.args.sign) c.args.row.now c.requires _ (own_one c.args.sign _ c.first_of.ensures (sym c.count_of.ensures.0 ∙ c.in-1.is))
 
-pub returns-in-2 : goal.returns-in-2
-returns-in-2 c =
-    wrote_two (cells_in c.args.sign) c.args.row.now c.requires _ _
-    (own_two c.args.sign _ _ c.first_of-in-2.ensures c.second_of.ensures (sym c.count_of.ensures.0 ∙ c.in-2.is))
+pub bounds-row-0-in_default : goal.bounds-row-0-in_default
+bounds-row-0-in_default c = omega (arith, cells_length c.args.sign)
 
-pub returns-in_default : goal.returns-in_default
-returns-in_default c =
+pub bounds-row-1 : goal.bounds-row-1
+bounds-row-1 c = simp length-set (omega (arith, cells_length c.args.sign))
+
+pub bounds-row-2 : goal.bounds-row-2
+bounds-row-2 c = simp length-set (omega (arith, cells_length c.args.sign))
+
+pub returns-then-count-eq3 : goal.returns-then-count-eq3
+returns-then-count-eq3 c =
     let three : count_of c.args.sign ≡ 3 = omega arith in
     wrote_three (cells_in c.args.sign) c.args.row.now c.requires _ _ _
-    (own_three c.args.sign _ _ _ c.first_of-in_default.ensures c.second_of-in_default.ensures c.third_of.ensures three)
+    (own_three c.args.sign _ _ _ c.first_of-in_default.ensures c.second_of.ensures c.third_of.ensures three)
+
+pub returns-else-count-eq3 : goal.returns-else-count-eq3
+returns-else-count-eq3 c =
+    let two : count_of c.args.sign ≡ 2 = omega arith in
+    wrote_two (cells_in c.args.sign) c.args.row.now c.requires _ _ (own_two c.args.sign _ _ c.first_of-in_default.ensures c.second_of.ensures two)
