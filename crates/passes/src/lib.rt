@@ -211,25 +211,19 @@ fn fitted(signs: &[u32], row: &mut [u8], n: usize) -> Result<usize, Refusal>
     Ok(writing::write(signs, row))
 }
 
-// A text that is normalised, or that is so with « for “, with room for a sign for each of its code points.
-fn transcribe_by(text: &[u32], signs: &mut [u32], row: &mut [u8]) -> Result<usize, Refusal>
-    requires { (length text.now ≤ longest_text) × (length text.now ≤ length signs.old) }
-    ensures { (result ≡ answer_of castilian (plainly text.now) (length row.old)) × (row.new ≡ out_of castilian (plainly text.now) row.old) }
-{
-    let n = draw(text, signs)?;
-    fitted(&signs[..text.len()], row, n)
-}
-
-// The same, with an array of N signs.
+// A text that is normalised, or that is so with « for “, through an array of N signs, which is one for each of its code points at least.
 fn transcribe_with<const N: usize>(text: &[u32], row: &mut [u8]) -> Result<usize, Refusal>
     requires { (length text.now ≤ N) × (N ≤ longest_text) }
     ensures { (result ≡ answer_of castilian (plainly text.now) (length row.old)) × (row.new ≡ out_of castilian (plainly text.now) row.old) }
 {
     let mut signs = [0u32; N];
-    transcribe_by(text, &mut signs, row)
+    let n = draw(text, &mut signs)?;
+    fitted(&signs[..text.len()], row, n)
 }
 
-// The same, with an array that is long enough, so that a caller lends nothing but the text and the row. The answer is the count of cells written.
+// The same, with an array that is long enough, so that a caller lends nothing but the text and the row. The answer is the count of cells written. (It is drawn into
+// its callers, since an answer that is handed on through memory takes longer than a short line does.)
+#[inline(always)]
 pub fn transcribe_normal(text: &[u32], row: &mut [u8]) -> Result<usize, Refusal>
     requires { length text.now ≤ longest_text }
     ensures { (result ≡ answer_of castilian (plainly text.now) (length row.old)) × (row.new ≡ out_of castilian (plainly text.now) row.old) }
