@@ -1,9 +1,9 @@
--- The loop that copies print, by what is still to come: the text, with the normalised print of the rest laid behind what is written, is the text as it is to be in
--- the end (`Copying`), d telling whether a digit stands directly before. A turn takes what the code point at i becomes off the front of that (`copying_on`), and at
--- the end nothing is left (`copying_end`). Assumes nothing.
+-- The loop that copies print, by what is still to come: behind place i it has the normalised print of the rest, d telling whether a digit stands directly before. A
+-- turn takes what the code point at i becomes off its front (`normal_turn`), and at the end nothing is left (`normal_end`). So between two turns the text, with the
+-- normalised print of the rest laid behind what is written, is the text as it is to be in the end (`Copying`). Assumes nothing.
 use mathlib.Core.Path.{◌≡◌, refl, sym, ap, ◌∙◌}
 use mathlib.Core.Bool.{Bool, false}
-use mathlib.Core.List.{List, ◌++◌}
+use mathlib.Core.List.{List, [], ◌++◌}
 use Prim.Native.Nat.{ℕ, ◌+◌, ◌-◌, ◌≤◌, ◌<◌}
 use native.Mathlib.Nat.{zero-add}
 use native.Mathlib.Numerals.{add-one}
@@ -15,6 +15,15 @@ use Rattle.rules.specs.Cells.{Text}
 use Rattle.rules.specs.Normal.{is_digit_point, becomes, normal_after, normal_of}
 use Rattle.rows.specs.Laid.{laid}
 use Rattle.rows.proofs.Laid.{turn_room, turn_length, turn_row, turn_count, turn_end}
+
+module _ (p : Text) (i : ℕ) (d : Bool) where
+  pub normal_turn : i < length p → normal_after d (drop i p) ≡ becomes d (get_or p i 0) ++ normal_after (is_digit_point (get_or p i 0)) (drop (i + 1) p)
+  unfolding normal_after
+  normal_turn h = rw (add-one, drop-cons p i 0)
+
+  pub normal_end : length p ≤ i → normal_after d (drop i p) ≡ []
+  unfolding normal_after
+  normal_end h = rw (drop_of_length-le p h)
 
 -- what the text, d, n and i are between two turns
 pub record Copying (print text₀ text : List ℕ) (d : Bool) (n i : ℕ) : Type 0 where
@@ -37,8 +46,7 @@ module _ (print text₀ : List ℕ) where
       rest = normal_after (is_digit_point (get_or print i 0)) (drop (i + 1) print)
 
       text_is : normal_after d (drop i print) ≡ here ++ rest
-      unfolding normal_after
-      text_is = rw (add-one, drop-cons print i 0)
+      text_is = normal_turn print i d l
 
       fits : n + length (here ++ rest) ≤ length text
       fits = omega (arith, ap length text_is, m.count, m.same)
@@ -57,5 +65,4 @@ module _ (print text₀ : List ℕ) where
           })
 
     pub copying_end : length print ≤ i → (n ≡ length (normal_of print)) × (text ≡ laid (normal_of print) text₀)
-    unfolding normal_after
-    copying_end l = turn_end text text₀ n _ (normal_of print) (rw (drop_of_length-le print l)) m.count m.laid_on
+    copying_end l = turn_end text text₀ n _ (normal_of print) (normal_end print i d l) m.count m.laid_on

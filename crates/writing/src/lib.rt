@@ -42,7 +42,8 @@ pub fn write(signs: &[u32], row: &mut [u8]) -> usize
     for sign in signs {
         let count = entries::sign::count_of(*sign);
         if count == 1 {
-            put_cell(&mut row[n..], entries::sign::first_of(*sign));
+            let cell = entries::sign::first_of(*sign);
+            put_cell(&mut row[n..], cell);
         } else {
             put_cells(&mut row[n..], *sign);
         }

@@ -29,7 +29,7 @@ loop-sign-preserved c =
     let counted = c.count_of-count.ensures.0 ∙ sym (cells_length sign) in
     elim c.if-count-eq1.branch [
       | then-count-eq1 w ↦
-          let one = own_one sign _ w.first_of.ensures (sym c.count_of-count.ensures.0 ∙ w.if-count-eq1.true) in
+          let one = own_one sign _ w.first_of-cell.ensures (sym c.count_of-count.ensures.0 ∙ w.if-count-eq1.true) in
           wid_on c.args.signs.now c.args.row.now l.row l.n l.sign-index l.invariant c.requires c.loop-sign-test.true _ _ _ counted
           (w.put_cell.ensures ∙ ap (λ (r : Row). laid r lent) (sym one)) w.row-is
       | else-count-eq1 w ↦
