@@ -109,7 +109,8 @@ fn put_points(text: &mut [u32], after_digit: bool, point: u32) -> usize
     }
 }
 
-// How many … the print has. It is counted in 32 bits, so that the machine can take several code points at once.
+// How many … the print has. It is counted in 32 bits, so that the machine can take several code points at once. (A chain of `filter` and `count` takes one at a time:
+// three times as long, and more than twice as long as plain Rust.)
 fn ellipses_in(print: &[u32]) -> u32
     requires { length print.now ≤ greatest_count }
     ensures { result ≡ ellipses_in print.now }
