@@ -11,7 +11,7 @@ use Rattle.rows.proofs.Laid.{front, length_laid}
 use Rattle.rules.specs.Castilian.{castilian}
 use Rattle.rules.specs.Refusals.{Refusal, number_of, second_of}
 use Rattle.rules.proofs.Refusals.{refusal_not_0}
-use Rattle.passes.specs.declared.Answer.{Answer}
+use Rattle.passes.specs.Passes.{Answer}
 use Rattle.transcriber.specs.Promise as written
 use Rattle.reader.specs.declared.Answer as reading
 use Rattle.reader.specs.Promise as told

@@ -1,7 +1,7 @@
 -- Each demand of specs/Demands.antt, proved of the Castilian table under the demand's own name. Assumes nothing.
 use mathlib.Core.List.{List}
 use mathlib.Core.Option.{Option, none, some}
-use mathlib.Core.Path.{◌≡◌, refl, sym, ap, ◌∙◌, subst}
+use mathlib.Core.Path.{◌≡◌, refl, subst}
 use Prim.Native.Nat.{ℕ, ◌+◌}
 use lib.ListN.{length}
 use Rattle.rules.specs.Cells.{Text, Row}
@@ -17,9 +17,9 @@ use Rattle.rules.proofs.Demands as demands
 use Rattle.rules.proofs.Castilian.{sane}
 use Rattle.rows.proofs.Laid.{front}
 use Rattle.rows.specs.Laid.{laid}
-use Rattle.readings.specs.Print.{points}
-use Rattle.passes.specs.declared.Answer as print
-use Rattle.passes.specs.declared.Answer.TheVariants as prints
+use Rattle.std.specs.Prelude.{Ok, Err}
+use Rattle.passes.specs.Passes as print
+use Rattle.passes.specs.declared.Refusal.TheVariants as prints
 use Rattle.transcriber.specs.Promise as transcribing
 use Rattle.transcriber.specs.Promise.{Transcribed}
 use Rattle.transcriber.proofs.Claims as transcriber
@@ -45,15 +45,15 @@ module _ (tb : Table) (p : Text) (lent : List ℕ) where
   refused_print a x e h = (a, lent, transcribing.refused a x e h)
 
   print_outcome : (a : rules.Answer) → rules.PrintAnswer tb p (length lent) a → Outcome
-  print_outcome a (rules.print_refused x (rules.refused_too_long l)) = refused_print (prints.TooLong _) _ refl (rules.print_refused _ (rules.refused_too_long l))
-  print_outcome a (rules.print_refused x (rules.no_sign n l f)) = refused_print (prints.NoSign n) _ refl (rules.print_refused _ (rules.no_sign n l f))
-  print_outcome a (rules.print_refused x (rules.pair_broken n l f)) = refused_print (prints.PairBroken n) _ refl (rules.print_refused _ (rules.pair_broken n l f))
-  print_outcome a (rules.print_refused x (rules.left_open l f o)) = refused_print (prints.PairBroken _) _ refl (rules.print_refused _ (rules.left_open l f o))
-  print_outcome a (rules.print_refused x (rules.refused_outside_form n l f)) = refused_print (prints.OutsideForm n) _ refl (rules.print_refused _ (rules.refused_outside_form n l f))
-  print_outcome a (rules.print_refused x (rules.refused_shares_cells n l f)) = refused_print (prints.SharesCells n) _ refl (rules.print_refused _ (rules.refused_shares_cells n l f))
+  print_outcome a (rules.print_refused x (rules.refused_too_long l)) = refused_print (Err (prints.TooLong _)) _ refl (rules.print_refused _ (rules.refused_too_long l))
+  print_outcome a (rules.print_refused x (rules.no_sign n l f)) = refused_print (Err (prints.NoSign n)) _ refl (rules.print_refused _ (rules.no_sign n l f))
+  print_outcome a (rules.print_refused x (rules.pair_broken n l f)) = refused_print (Err (prints.PairBroken n)) _ refl (rules.print_refused _ (rules.pair_broken n l f))
+  print_outcome a (rules.print_refused x (rules.left_open l f o)) = refused_print (Err (prints.PairBroken _)) _ refl (rules.print_refused _ (rules.left_open l f o))
+  print_outcome a (rules.print_refused x (rules.refused_outside_form n l f)) = refused_print (Err (prints.OutsideForm n)) _ refl (rules.print_refused _ (rules.refused_outside_form n l f))
+  print_outcome a (rules.print_refused x (rules.refused_shares_cells n l f)) = refused_print (Err (prints.SharesCells n)) _ refl (rules.print_refused _ (rules.refused_shares_cells n l f))
   print_outcome a (rules.print_refused x (rules.row_needs_room r l e k)) =
-      refused_print (prints.NeedsRoom _) _ refl (rules.print_refused _ (rules.row_needs_room r l e k))
-  print_outcome a (rules.transcribed r l e k) = (prints.Done (length r), laid r lent, transcribing.done r (rules.transcribed r l e k))
+      refused_print (Err (prints.NeedsRoom _)) _ refl (rules.print_refused _ (rules.row_needs_room r l e k))
+  print_outcome a (rules.transcribed r l e k) = (Ok (length r), laid r lent, transcribing.done r (rules.transcribed r l e k))
 
 -- the answer of a refused row
 row_answer : (tb : Table) (r : Row) (x : Refusal) → rules.RowRefused tb r x → (a : row.Answer) × (reading.refusal_of a ≡ some x)

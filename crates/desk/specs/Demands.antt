@@ -2,13 +2,12 @@
 -- Castilian table under the same name in snake case in proofs/Demands.antt. `Transcribed`, `Read` and `Shows` are the promises of `transcribe`, `read` and `step`; that
 -- the functions keep them, for every input, is what the check proves of the functions. What is demanded of the rules stands in crates/rules/specs/Demands.antt.
 -- Assumes nothing.
-use Rattle.std.specs.Prelude.{List, ◌≡◌, ℕ, ◌≤◌, length, take}
+use Rattle.std.specs.Prelude.{List, ◌≡◌, ℕ, Ok, ◌≤◌, length, take}
 use Rattle.rules.specs.Cells.{Text, Row}
 use Rattle.rules.specs.Sorts.{Table}
 use Rattle.rules.specs.Normal.{normal_of}
 use Rattle.rules.specs.Demands as rules
-use Rattle.passes.specs.declared.Answer as print
-use Rattle.passes.specs.declared.Answer.TheVariants as prints
+use Rattle.passes.specs.Passes as print
 use Rattle.transcriber.specs.Promise.{Transcribed}
 use Rattle.transcriber.specs.Claims as transcriber
 use Rattle.reader.specs.declared.Answer as row
@@ -50,7 +49,7 @@ OneSign = shown.OneSign
 -- DEMAND 2. "The cells are those of the sign rules, and reading them, with room enough, gives back the normalised print": over the two public promises
 abbrev pub RoundTrip : Table → Type 0
 RoundTrip tb =
-    (p : Text) (lent : List ℕ) (n : ℕ) (new : List ℕ) → Transcribed tb p lent (prints.Done n) new
+    (p : Text) (lent : List ℕ) (n : ℕ) (new : List ℕ) → Transcribed tb p lent (Ok n) new
     → (room : List ℕ) (a : row.Answer) (after : List ℕ) → Read tb (take n new) room a after → length (normal_of p) ≤ length room
     → (a ≡ rows.Done (length (normal_of p))) × (take (length (normal_of p)) after ≡ normal_of p)
 

@@ -3,7 +3,7 @@
 use Rattle.std.specs.Prelude.{cond, List, ◌≡◌, ℕ, eqb}
 use Rattle.rules.specs.Cells.{Text, Row}
 use Rattle.rules.specs.Sorts.{Table}
-use Rattle.passes.specs.declared.Answer.{Answer}
+use Rattle.passes.specs.Passes.{Answer}
 use Rattle.transcriber.specs.Promise.{numbers_of, Transcribed}
 use Rattle.reader.specs.declared.Answer as reading
 use Rattle.reader.specs.Promise as read

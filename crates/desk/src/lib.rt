@@ -6,7 +6,7 @@ ghost use Rattle.rules.specs.Castilian.{castilian};
 ghost use Rattle.desk.specs.Shows.{shown_of, Shows, read_of, ShowsRead, points_of, still_of, sign_of, ShowsSign};
 
 use readings::NO_POINT;
-use transcriber::Answer;
+use transcriber::Refusal;
 
 // What the desk shows. number 0: done, and second is the count of what was written. Any other number is a refusal of paper 01's table, and second its
 // second number.
@@ -49,39 +49,20 @@ const NOT_A_CELL: usize = 7;
 const NO_TEXT: usize = 8;
 
 // The two numbers of an answer.
-pub fn numbers(answer: Answer) -> Shown
+#[tactic(auto, unfolding(crate::specs::Shows::shown_of, transcriber::specs::Promise::numbers_of, rules::specs::Refusals::number_of, rules::specs::Refusals::second_of))]
+pub fn numbers(answer: Result<usize, Refusal>) -> Shown
     ensures { result ≡ shown_of answer }
 {
-    match answer {
-        Answer::Done(n) => Shown {
-            number: DONE,
-            second: n,
-        },
-        Answer::TooLong(n) => Shown {
-            number: TOO_LONG,
-            second: n,
-        },
-        Answer::NoSign(n) => Shown {
-            number: NO_SIGN,
-            second: n,
-        },
-        Answer::PairBroken(n) => Shown {
-            number: PAIR_BROKEN,
-            second: n,
-        },
-        Answer::OutsideForm(n) => Shown {
-            number: OUTSIDE_FORM,
-            second: n,
-        },
-        Answer::SharesCells(n) => Shown {
-            number: SHARES_CELLS,
-            second: n,
-        },
-        Answer::NeedsRoom(n) => Shown {
-            number: NEEDS_ROOM,
-            second: n,
-        },
-    }
+    let (number, second) = match answer {
+        Ok(n) => (DONE, n),
+        Err(Refusal::TooLong(n)) => (TOO_LONG, n),
+        Err(Refusal::NoSign(n)) => (NO_SIGN, n),
+        Err(Refusal::PairBroken(n)) => (PAIR_BROKEN, n),
+        Err(Refusal::OutsideForm(n)) => (OUTSIDE_FORM, n),
+        Err(Refusal::SharesCells(n)) => (SHARES_CELLS, n),
+        Err(Refusal::NeedsRoom(n)) => (NEEDS_ROOM, n),
+    };
+    Shown { number, second }
 }
 
 // Print to cells, as `transcriber::transcribe`: any print, any lent row. Two wrong programs that the promise shuts out: one that shows a number of its

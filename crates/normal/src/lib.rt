@@ -48,11 +48,10 @@ const GREATEST_REPORTED: usize = 4294967295;
 // "normalised text above 4,096 code points"
 const LONGEST_TEXT: usize = 4096;
 
-// What `normalise` made: a text of so many code points; or nothing, for want of room for so many.
-#[derive(Clone, Copy)]
-pub enum Normalised {
-    Text(usize),
-    NoRoom(usize),
+// Why `normalise` made nothing: the normalised print is above 4,096 code points, or above the room lent. Its length, as it is reported.
+#[derive(Clone, Copy, PartialEq, Eq)]
+pub struct NoRoom {
+    pub length: usize,
 }
 
 // A digit is 0 to 9 and nothing else.
@@ -98,30 +97,29 @@ fn put_points(text: &mut [u32], after_digit: bool, point: u32) -> usize
     if gets_stop(after_digit, point) {
         text[0] = FULL_STOP;
         text[1] = point;
-        return 2;
-    }
-    if point == ELLIPSIS {
+        2
+    } else if point == ELLIPSIS {
         text[0] = FULL_STOP;
         text[1] = FULL_STOP;
         text[2] = FULL_STOP;
-        return 3;
+        3
+    } else {
+        text[0] = replacement(point);
+        1
     }
-    text[0] = replacement(point);
-    1
 }
 
-// How many … the print has. The loop counts in 32 bits and has no way out but its end, so that the machine can take several code points at once.
+// How many … the print has. It is counted in 32 bits, so that the machine can take several code points at once. (A chain of `filter` and `count` takes one at a time:
+// three times as long, and more than twice as long as plain Rust.)
 fn ellipses_in(print: &[u32]) -> u32
     requires { length print.now ≤ greatest_count }
     ensures { result ≡ ellipses_in print.now }
 {
     let mut count: u32 = 0;
-    let mut i: usize = 0;
-    while i < print.len() {
-        if print[i] == ELLIPSIS {
+    for point in print {
+        if *point == ELLIPSIS {
             count += 1;
         }
-        i += 1;
     }
     count
 }
@@ -132,12 +130,10 @@ fn stops_in(print: &[u32]) -> u32
     ensures { result ≡ stops_in print.now }
 {
     let mut count: u32 = 0;
-    let mut i: usize = 1;
-    while i < print.len() {
+    for i in 1..print.len() {
         if gets_stop(is_digit(print[i - 1]), print[i]) {
             count += 1;
         }
-        i += 1;
     }
     count
 }
@@ -151,11 +147,7 @@ pub fn normal_length(print: &[u32]) -> usize
         return GREATEST_REPORTED;
     }
     let n = print.len() + ELLIPSIS_ADDS * ellipses_in(print) as usize + stops_in(print) as usize;
-    if n <= GREATEST_REPORTED {
-        n
-    } else {
-        GREATEST_REPORTED
-    }
+    n.min(GREATEST_REPORTED)
 }
 
 // Writes the normalised print from the first element on: what each code point becomes goes to its own stretch. The answer is its length.
@@ -165,27 +157,21 @@ fn copy(print: &[u32], text: &mut [u32]) -> usize
 {
     let mut after_digit = false;
     let mut n: usize = 0;
-    let mut i: usize = 0;
-    while i < print.len() {
-        let point = print[i];
-        n = n + put_points(&mut text[n..], after_digit, point);
-        after_digit = is_digit(point);
-        i += 1;
+    for point in print {
+        n += put_points(&mut text[n..], after_digit, *point);
+        after_digit = is_digit(*point);
     }
     n
 }
 
 // The normalised print, written to what is lent from its first element on, with its length; or, where it is above 4,096 code points or there is no room for
 // it, its length as it is reported, and what is lent is as it was.
-pub fn normalise(print: &[u32], text: &mut [u32]) -> Normalised
+pub fn normalise(print: &[u32], text: &mut [u32]) -> Result<usize, NoRoom>
     ensures { (result ≡ normalised_of print.now (length text.old)) × (text.new ≡ copy_of print.now text.old) }
 {
     let length = normal_length(print);
-    if LONGEST_TEXT < length {
-        return Normalised::NoRoom(length);
+    if LONGEST_TEXT < length || text.len() < length {
+        return Err(NoRoom { length });
     }
-    if text.len() < length {
-        return Normalised::NoRoom(length);
-    }
-    Normalised::Text(copy(print, text))
+    Ok(copy(print, text))
 }

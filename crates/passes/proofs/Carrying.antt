@@ -9,6 +9,8 @@ use native.Mathlib.Omega.{arith}
 use lib.Dec.{eqb}
 use lib.ListN.{length, take, get_or, set, length-set}
 use lib.Seq.{take-set-le}
+use Rattle.std.specs.declared.option.Option as rust
+use Rattle.std.specs.Prelude.{Some, None}
 use borrow.Author.Tests.{eqb-true, eqb-false, ne_eqb}
 use Rattle.rules.specs.Sorts.{Sort, letter, digit, full_stop, comma, hyphen, dash, fraction_bar, ordinal, pair_mark, percent, plain, no_sign, Table, Class, class, class_number, capital}
 use Rattle.rules.specs.Pairs.{mark_of}
@@ -24,9 +26,8 @@ use Rattle.turns.specs.Ahead.{future_at}
 use Rattle.turns.proofs.Ahead.{future_step}
 use Rattle.passes.specs.Middle.{Mid, Carried}
 use Rattle.passes.specs.Passes.{sign_by}
-use Rattle.passes.specs.declared.Reached.{Reached}
 use Rattle.passes.proofs.Going.{Held, ahead}
-use Rattle.passes.proofs.Drawing.{Passed, passed_none, passed_usual, went_deed, went_usual, mid_on}
+use Rattle.passes.proofs.Drawing.{passed_none, passed_usual, went_deed, went_usual, mid_on}
 
 -- a capital is no pair mark
 capital_unmarked : (s : Sort) → class_number (class s) ≡ class_number capital → mark_of s ≡ none
@@ -48,6 +49,9 @@ capital_unmarked no_sign e = refl
 pub two_cells : (e : ℕ) → 2 ≡ count_of (sign_by act.one_capital_way e)
 unfolding sign_by
 two_cells e = omega arith
+
+some_same : (w x : ℕ) → ◌≡◌ {A = rust.Option ℕ} (Some w) (Some x) → w ≡ x
+some_same w x q = cc
 
 -- what `signs`, `state`, `n` and `i` are between two turns, from the signs, the state, the count and the place at the beginning
 pub record Under (tb : Table) (text signs₁ signs : List ℕ) (begun counted from state n i : ℕ) : Type 0 where
@@ -80,12 +84,13 @@ module _ (tb : Table) (h : Held tb) (text signs₁ : List ℕ) (begun counted fr
     abbrev e : ℕ
     e = entry_of tb (get_or text i 0)
 
-    pub reached : (w : ℕ) → (i < length text → w ≡ e) → (i < length text → usual_in e state ≡ false)
-        → Carried tb text signs₁ signs begun counted from (record { place = i; entry = w; state = state; cells = n })
-    reached w is_w unusual =
+    at_place : (x : rust.Option ℕ) → ((w : ℕ) → x ≡ Some w → (i < length text) × (w ≡ e)) → (x ≡ None → length text ≤ i) → (i < length text → usual_in e state ≡ false)
+        → Carried tb text signs₁ signs begun counted from (record { place = i; entry = x; state = state; cells = n })
+    at_place x word no_word unusual =
         record {
           on = u.on;
-          word = is_w;
+          word = word;
+          no_word = no_word;
           asks = unusual;
           same = u.same;
           kept = u.kept;
@@ -93,6 +98,16 @@ module _ (tb : Table) (h : Held tb) (text signs₁ : List ℕ) (begun counted fr
           run = u.run;
           carries = u.carries;
         }
+
+    pub reached : i < length text → (w : ℕ) → w ≡ e → usual_in e state ≡ false
+        → Carried tb text signs₁ signs begun counted from (record { place = i; entry = Some w; state = state; cells = n })
+    reached l w is_w unusual = at_place (Some w) (λ x q. (l, sym (some_same w x q) ∙ is_w)) (λ q. cc) (λ k. unusual)
+
+    pub reached_end : (place : ℕ) → place ≡ length text → i ≡ place
+        → Carried tb text signs₁ signs begun counted from (record { place = place; entry = None; state = state; cells = n })
+    reached_end place is_end at_end =
+        subst (λ (k : ℕ). Carried tb text signs₁ signs begun counted from (record { place = k; entry = None; state = state; cells = n })) at_end
+        (at_place None (λ x q. cc) (λ q. omega arith) (λ k. absurd (omega arith)))
 
     module _ (l : i < length text) (w k : ℕ) (new : List ℕ) (count : ℕ) (is_new : new ≡ set signs i w) (is_count : count ≡ n + k) where
       -- s is the state after it: of a run of capitals only where this one is, and as long as it is, the run leaves open what is ahead

@@ -24,8 +24,8 @@ use Rattle.entries.specs.SignWords.{cells_in, count_of}
 use Rattle.entries.specs.Entries.{entry_of, class_in, sign_in, then_in, mark_in, usual_in, marks, mark_number}
 use Rattle.entries.proofs.SignWords.{cells_length}
 use Rattle.pairs.specs.Opened.{open_states, opens_of, kind_by, opener_by, pairs_by}
-use Rattle.pairs.specs.declared.Pairs.{Pairs}
-use Rattle.pairs.specs.declared.Pairs.TheVariants.{Stand, Broken}
+use Rattle.std.specs.declared.option.Option as rust
+use Rattle.std.specs.Prelude.{Ok, Err, Some, None}
 use Rattle.pairs.proofs.Pairing.{kind_small, mark_says, Means, pairs_mean, closed_is, none_open}
 use Rattle.deeds.specs.Acts as act
 use Rattle.deeds.specs.Stages.{stage_at, deed_of, settled_by, act_of}
@@ -35,8 +35,7 @@ use Rattle.writing.specs.Joined.{joined}
 use Rattle.writing.proofs.Joined.{joined_more}
 use Rattle.passes.specs.Passes.{sign_by, fault_by, shown, measured_of, Drawn}
 use Rattle.passes.specs.Middle.{Mid}
-use Rattle.passes.specs.declared.Answer.TheVariants.{PairBroken}
-use Rattle.passes.specs.declared.Measured.TheVariants.{Cells, Refused}
+use Rattle.passes.specs.declared.Refusal.TheVariants.{PairBroken}
 use Rattle.passes.proofs.Going.{Held, sort_here, next, ahead, outcome_here, act_here, deed_is, usual_deed, state_after, cells_here, no_fault, row_here, verdict_here, row_end, verdict_end, row_start, verdict_start, judge_on}
 
 -- the code point at place i may stand there, as far as pairs go, and then these kinds are open
@@ -81,16 +80,16 @@ module _ (tb : Table) (h : Held tb) (text : List ℕ) where
           mark_says (mark_of (sort_in tb c)) (subst (λ (k : ℕ). 0 < k) number some_mark) (subst (λ (k : ℕ). k < marks) number mark_small)
           ∙ ap (λ (k : ℕ). some (kind_by k, opener_by k)) (sym number)
 
-      mean : (p : Pairs) → pairs_by opened m ≡ p → Means opened (kind_by m) few (kind_small m mark_small) (opener_by m) p
+      mean : (p : rust.Option ℕ) → pairs_by opened m ≡ p → Means opened (kind_by m) few (kind_small m mark_small) (opener_by m) p
       mean p e = subst (Means opened (kind_by m) few (kind_small m mark_small) (opener_by m)) e (pairs_mean opened m few mark_small)
 
-      pub passed_mark : (opens : ℕ) → pairs_by opened m ≡ Stand opens → Passed tb text opened i opens
+      pub passed_mark : (opens : ℕ) → pairs_by opened m ≡ Some opens → Passed tb text opened i opens
       unfolding fits turn
-      passed_mark opens e = let t = mean (Stand opens) e in record { stands = rw says t.0; turns = rw says t.1; few = t.2 }
+      passed_mark opens e = let t = mean (Some opens) e in record { stands = rw says t.0; turns = rw says t.1; few = t.2 }
 
-      pub not_passed : pairs_by opened m ≡ Broken → fits (opens_of opened) (sort_in tb c) ≡ false
+      pub not_passed : pairs_by opened m ≡ None → fits (opens_of opened) (sort_in tb c) ≡ false
       unfolding fits
-      not_passed e = rw says (mean Broken e)
+      not_passed e = rw says (mean None e)
 
   -- what is done at place i: no fault; the cells of its sign; the state after it
   pub record Went (past : Past) (i w s : ℕ) : Type 0 where
@@ -155,7 +154,7 @@ module _ (tb : Table) (h : Held tb) (text : List ℕ) where
 
   module _ (signs₀ signs : List ℕ) (opened state n i : ℕ) (m : Mid tb text signs₀ signs opened state n i) where
     module _ (l : i < length text) where
-      pub mid_broken : fits (opens_of opened) (sort_in tb (get_or text i 0)) ≡ false → Refused (PairBroken i) ≡ measured_of tb text
+      pub mid_broken : fits (opens_of opened) (sort_in tb (get_or text i 0)) ≡ false → Err (PairBroken i) ≡ measured_of tb text
       mid_broken e = told (bad breaks_pair i) (sym (verdict_here tb h text i m.past l (opens_of opened) ∙ rw e) ∙ m.whole)
 
       module _ (opens : ℕ) (p : Passed tb text opened i opens) where
@@ -166,7 +165,7 @@ module _ (tb : Table) (h : Held tb) (text : List ℕ) where
             ∙ rw (p.stands, p.turns, e)
 
         pub mid_fault : (d : ℕ) → d ≡ act_here tb h text i m.past
-            → act.questions ≤ d → Refused (fault_by d i) ≡ measured_of tb text
+            → act.questions ≤ d → Err (fault_by d i) ≡ measured_of tb text
         unfolding act_of fault_by
         mid_fault d is_d q = go (outcome_here tb h text i m.past) refl
           where
@@ -185,14 +184,14 @@ module _ (tb : Table) (h : Held tb) (text : List ℕ) where
               judged v refl ∙ ap (λ (y : Outcome). judge true y i v) e,
             )
 
-            go : (x : Outcome) → outcome_here tb h text i m.past ≡ x → Refused (fault_by d i) ≡ measured_of tb text
+            go : (x : Outcome) → outcome_here tb h text i m.past ≡ x → Err (fault_by d i) ≡ measured_of tb text
             go (fault lacks_sign) e =
-                let f = at_fault_lem (fault lacks_sign) e in ap (λ (k : ℕ). Refused (fault_by k i)) f.0 ∙ told (bad lacks_sign i) (sym f.1)
+                let f = at_fault_lem (fault lacks_sign) e in ap (λ (k : ℕ). Err (fault_by k i)) f.0 ∙ told (bad lacks_sign i) (sym f.1)
             go (fault breaks_pair) e = absurd (never_paired m.past (class (sort_here tb h text i m.past)) (ahead tb h text i m.past) e)
             go (fault outside_form) e =
-                let f = at_fault_lem (fault outside_form) e in ap (λ (k : ℕ). Refused (fault_by k i)) f.0 ∙ told (bad outside_form i) (sym f.1)
+                let f = at_fault_lem (fault outside_form) e in ap (λ (k : ℕ). Err (fault_by k i)) f.0 ∙ told (bad outside_form i) (sym f.1)
             go (fault shares_cells) e =
-                let f = at_fault_lem (fault shares_cells) e in ap (λ (k : ℕ). Refused (fault_by k i)) f.0 ∙ told (bad shares_cells i) (sym f.1)
+                let f = at_fault_lem (fault shares_cells) e in ap (λ (k : ℕ). Err (fault_by k i)) f.0 ∙ told (bad shares_cells i) (sym f.1)
             go silent e = absurd (high (ap faultless e))
             go (sign w) e = absurd (high (ap faultless e))
 
@@ -237,13 +236,13 @@ module _ (tb : Table) (h : Held tb) (text : List ℕ) where
           ap (λ (b : Bool). cond b good (bad breaks_pair i)) (sym (closed_is opened m.few))
           ∙ sym (verdict_end tb h text i m.past (opens_of opened) l) ∙ m.whole
 
-      pub mid_done : opened ≡ 0 → (Cells n ≡ measured_of tb text) × Drawn (Cells n) tb text (take (length text) signs)
+      pub mid_done : opened ≡ 0 → (Ok n ≡ measured_of tb text) × Drawn (Ok n) tb text (take (length text) signs)
       mid_done e =
           let k : i ≡ length text = omega (arith, m.inside) in (
-            ap Cells (m.count ∙ ap length all_drawn)
+            ap Ok (m.count ∙ ap length all_drawn)
                 ∙ told good (ap (λ (b : Bool). cond b good (bad breaks_pair i)) (sym (eq-eqb opened 0 e)) ∙ ended),
             ap (λ (j : ℕ). joined (take j signs)) (sym k) ∙ all_drawn,
           )
 
-      pub mid_open : (opened ≡ 0 → ⊥) → Refused (PairBroken i) ≡ measured_of tb text
+      pub mid_open : (opened ≡ 0 → ⊥) → Err (PairBroken i) ≡ measured_of tb text
       mid_open e = told (bad breaks_pair i) (ap (λ (b : Bool). cond b good (bad breaks_pair i)) (sym (ne_eqb opened 0 e)) ∙ ended)

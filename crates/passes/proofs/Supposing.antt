@@ -10,6 +10,7 @@ use native.Mathlib.Omega.{arith}
 use lib.Dec.{eqb, ltb}
 use lib.ListN.{length, take, get_or, set, length-set}
 use lib.Seq.{take-set-lt, get_or-take, get_or-set_same, set-set}
+use Rattle.std.specs.Prelude.{Some, None}
 use borrow.Author.Tests.{eqb-true}
 use Rattle.rules.specs.Sorts.{Table, class_number, capital}
 use Rattle.rules.proofs.Finite.{beq_same}
@@ -81,23 +82,23 @@ module _ (tb : Table) (h : Held tb) (text signs₀ : List ℕ) where
         wrong = λ e w. absurd (true≢false (sym w ∙ capitals_only m.past (future_at tb text i) (sym m.at ∙ e)));
       }
 
-  pub at_end : (signs : List ℕ) (opened state n i : ℕ) → Supposing tb text signs₀ signs opened state n i → length text ≤ i → Mid tb text signs₀ signs opened state n i
-  at_end signs opened state n i v l = v.right (λ e. end_here tb h.zero text i l)
+  pub at_end : {signs : List ℕ} {opened state n i : ℕ} → Supposing tb text signs₀ signs opened state n i → length text ≤ i → Mid tb text signs₀ signs opened state n i
+  at_end {i} v l = v.right (λ e. end_here tb h.zero text i l)
 
   -- WHAT ASKS NOTHING IS DRAWN, from place i on
-  module _ (signs new : List ℕ) (opened state n i : ℕ) (v : Supposing tb text signs₀ signs opened state n i) (r : Reached) (c : Carried tb text signs new state n i r) where
-    small_told : r.place < length text → small_among_capitals r.state r.entry ≡ eqb r.state capitals && is_small (class_at tb text r.place)
-    small_told l =
-        ap (λ (w : ℕ). small_among_capitals r.state w) (c.word l)
+  module _ {signs new : List ℕ} {opened state n i : ℕ} (v : Supposing tb text signs₀ signs opened state n i) {r : Reached} (c : Carried tb text signs new state n i r) where
+    small_told : (w : ℕ) → r.entry ≡ Some w → small_among_capitals r.state w ≡ eqb r.state capitals && is_small (class_at tb text r.place)
+    small_told w is_w =
+        ap (λ (w : ℕ). small_among_capitals r.state w) (c.word w is_w).1
         ∙ ap (λ (k : ℕ). eqb r.state capitals && ltb k (class_number capital)) (h.words.class_is (get_or text r.place 0))
         ∙ ap (λ (b : Bool). eqb r.state capitals && b)
         (beq_same (ltb (class_number (class_at tb text r.place)) (class_number capital)) (is_small (class_at tb text r.place))
         (classes.at (λ k. beq (ltb (class_number k) (class_number capital)) (is_small k)) tt (class_at tb text r.place)))
 
     -- up to a small letter in a run of capitals
-    module _ (l : r.place < length text) (e : small_among_capitals r.state r.entry ≡ true) where
+    module _ (w : ℕ) (is_w : r.entry ≡ Some w) (e : small_among_capitals r.state w ≡ true) where
       both : (eqb r.state capitals ≡ true) × (is_small (class_at tb text r.place) ≡ true)
-      both = and_true (eqb r.state capitals) (is_small (class_at tb text r.place)) (sym (small_told l) ∙ e)
+      both = and_true (eqb r.state capitals) (is_small (class_at tb text r.place)) (sym (small_told w is_w) ∙ e)
 
       pub was_supposed : state ≡ capitals
       was_supposed = c.still (eqb-true r.state capitals both.0)
@@ -114,15 +115,15 @@ module _ (tb : Table) (h : Held tb) (text signs₀ : List ℕ) where
       pub some_cell : 1 ≤ n
       some_cell = anew.1
 
-      pub undone : (w : ℕ) → w ≡ alone_of (get_or new (i - 1) 0) → Supposing tb text signs₀ (set new (i - 1) w) opened mixed (n - 1) i
-      undone w is_w =
+      pub undone : (a : ℕ) → a ≡ alone_of (get_or new (i - 1) 0) → Supposing tb text signs₀ (set new (i - 1) a) opened mixed (n - 1) i
+      undone a is_a =
           let j : ℕ = i - 1 in
           let b : j < i = omega (arith, some_place) in
           let x : ℕ = alone_of (get_or signs j 0) in
           let q : get_or new j 0 ≡ get_or signs j 0 = sym (get_or-take i new j 0 b) ∙ ap (λ (s : List ℕ). get_or s j 0) c.kept ∙ get_or-take i signs j 0 b in
-          supposing (set new j w) opened mixed (n - 1) i
-          (mid_kept (set signs j x) (set new j w) opened mixed (n - 1) i anew.2 (length-set new j w ∙ c.same ∙ sym (length-set signs j x))
-          (take-set-lt i new j w b ∙ ap (λ (s : List ℕ). set s j w) c.kept ∙ ap (λ (y : ℕ). set (take i signs) j y) (is_w ∙ ap alone_of q)
+          supposing (set new j a) opened mixed (n - 1) i
+          (mid_kept (set signs j x) (set new j a) opened mixed (n - 1) i anew.2 (length-set new j a ∙ c.same ∙ sym (length-set signs j x))
+          (take-set-lt i new j a b ∙ ap (λ (s : List ℕ). set s j a) c.kept ∙ ap (λ (y : ℕ). set (take i signs) j y) (is_a ∙ ap alone_of q)
           ∙ sym (take-set-lt i signs j x b)))
 
     -- up to anything else: no small letter is ahead in a run of capitals
@@ -132,9 +133,12 @@ module _ (tb : Table) (h : Held tb) (text signs₀ : List ℕ) where
           c.carries signs₀ opened
           (v.right (λ q. c.run q ∙ cond_false (eqb r.state capitals) (mixed_next (future_at tb text r.place)) none))
 
-    pub stood : r.place < length text → small_among_capitals r.state r.entry ≡ false → Mid tb text signs₀ new opened r.state r.cells r.place
-    stood l e = right_so (λ q. no_letter_here tb h.zero text r.place (no_capital q (is_capital (class_at tb text r.place)) refl) (no_small q))
+    pub stood : (w : ℕ) → r.entry ≡ Some w → small_among_capitals r.state w ≡ false → Mid tb text signs₀ new opened r.state r.cells r.place
+    stood w is_w e = right_so (λ q. no_letter_here tb h.zero text r.place (no_capital q (is_capital (class_at tb text r.place)) refl) (no_small q))
       where
+        l : r.place < length text
+        l = (c.word w is_w).0
+
         no_capital : eqb r.state capitals ≡ true → (b : Bool) → is_capital (class_at tb text r.place) ≡ b → b ≡ false
         no_capital q true z =
             sym (h.words.capital_usual (get_or text r.place 0) z)
@@ -142,13 +146,13 @@ module _ (tb : Table) (h : Held tb) (text signs₀ : List ℕ) where
         no_capital q false z = refl
 
         no_small : eqb r.state capitals ≡ true → is_small (class_at tb text r.place) ≡ false
-        no_small q = ap (λ (b : Bool). b && is_small (class_at tb text r.place)) (sym q) ∙ sym (small_told l) ∙ e
+        no_small q = ap (λ (b : Bool). b && is_small (class_at tb text r.place)) (sym q) ∙ sym (small_told w is_w) ∙ e
 
-    pub stood_at_end : length text ≤ r.place → Mid tb text signs₀ new opened r.state r.cells r.place
-    stood_at_end l = right_so (λ q. end_here tb h.zero text r.place l)
+    pub stood_at_end : r.entry ≡ None → Mid tb text signs₀ new opened r.state r.cells r.place
+    stood_at_end e = right_so (λ q. end_here tb h.zero text r.place (c.no_word e))
 
   -- A TURN, by a deed that may be supposed
-  module _ (signs : List ℕ) (opened state n i : ℕ) (m : Mid tb text signs₀ signs opened state n i) (l : i < length text) (opens : ℕ) (p : Passed tb text opened i opens) where
+  module _ {signs : List ℕ} {opened state n i : ℕ} (m : Mid tb text signs₀ signs opened state n i) (l : i < length text) {opens : ℕ} (p : Passed tb text opened i opens) where
     abbrev e : ℕ
     e = entry_of tb (get_or text i 0)
 

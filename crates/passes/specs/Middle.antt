@@ -1,6 +1,6 @@
 -- The first pass in the middle of a text, for any table: the signs drawn, with what is still to come, give the whole answer (`Mid`), or they do so once a run is
 -- found not to be of capitals only (`Supposing`); what a part of the pass leaves of that (`Carried`). Only inner promises name these. Assumes nothing.
-use Rattle.std.specs.Prelude.{true, false, cond, List, ◌++◌, ◌≡◌, ℕ, ◌-◌, ◌*◌, ◌≤◌, ◌<◌, eqb, length, take, set, get_or}
+use Rattle.std.specs.Prelude.{Some, None, true, false, cond, List, ◌++◌, ◌≡◌, ℕ, ◌-◌, ◌*◌, ◌≤◌, ◌<◌, eqb, length, take, set, get_or}
 use Rattle.rules.specs.Sorts.{Table}
 use Rattle.rules.specs.Rows.{verdict_of}
 use Rattle.rules.proofs.States.{Past}
@@ -44,7 +44,8 @@ pub record Supposing (tb : Table) (text signs₀ signs : List ℕ) (opened state
 -- not written as usual; the state is that of a run of capitals only where it was so before, and as long as it is, whether a small letter is ahead in that run is open
 pub record Carried (tb : Table) (text signs new : List ℕ) (state n i : ℕ) (r : Reached) : Type 0 where
   pub on : i ≤ r.place
-  pub word : r.place < length text → r.entry ≡ entry_of tb (get_or text r.place 0)
+  pub word : (w : ℕ) → r.entry ≡ Some w → (r.place < length text) × (w ≡ entry_of tb (get_or text r.place 0))
+  pub no_word : r.entry ≡ None → length text ≤ r.place
   pub asks : r.place < length text → usual_in (entry_of tb (get_or text r.place 0)) r.state ≡ false
   pub same : length new ≡ length signs
   pub kept : take i new ≡ take i signs

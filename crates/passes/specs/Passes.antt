@@ -1,6 +1,6 @@
 -- What the passes over a text promise: the sign of a word by its way; what the first pass finds; the answer to a normalised text. Not here: what the second
 -- pass writes (`Joined` of the crate `writing`). Assumes nothing.
-use Rattle.std.specs.Prelude.{Bool, ◌&&◌, cond, List, [], ◌∷◌, ◌≡◌, ℕ, eqb, leb, ltb, length}
+use Rattle.std.specs.Prelude.{Bool, ◌&&◌, cond, List, [], ◌∷◌, ◌≡◌, ℕ, Result, Ok, Err, eqb, leb, ltb, length}
 use Rattle.rules.specs.Cells.{Text, Row}
 use Rattle.rules.specs.Sorts.{Table, capital, class_number}
 use Rattle.rules.specs.Places.{lacks_sign, breaks_pair, outside_form, shares_cells}
@@ -13,10 +13,12 @@ use Rattle.entries.specs.Entries.{class_in, sign_in, first_in, lower_in}
 use Rattle.deeds.specs.Acts as act
 use Rattle.rows.specs.Laid.{laid}
 use Rattle.writing.specs.Joined.{joined}
-use Rattle.passes.specs.declared.Answer.{Answer}
-use Rattle.passes.specs.declared.Answer.TheVariants.{Done, NoSign, PairBroken, OutsideForm, SharesCells, NeedsRoom}
-use Rattle.passes.specs.declared.Measured.{Measured}
-use Rattle.passes.specs.declared.Measured.TheVariants.{Cells, Refused}
+use Rattle.passes.specs.declared.Refusal.{Refusal}
+use Rattle.passes.specs.declared.Refusal.TheVariants.{NoSign, PairBroken, OutsideForm, SharesCells, NeedsRoom}
+
+-- THE ANSWER to a print: the count of cells written, or the refusal
+abbrev pub Answer : Type 0
+Answer = Result ℕ Refusal
 
 -- THE SIGN of a word, by its way of writing: the cells before its own, and its own or the lower digit's
 abbrev pub dots46 : ℕ
@@ -53,36 +55,36 @@ alone_of w = sign_of_two dots46 (third_of w)
 abbrev pub small_among_capitals : ℕ → ℕ → Bool
 small_among_capitals s e = eqb s capitals && ltb (class_in e) (class_number capital)
 
-abbrev pub faults : ℕ → List (ℕ × Answer)
+abbrev pub faults : ℕ → List (ℕ × Refusal)
 faults i = (act.no_sign, NoSign i) ∷ (act.outside_form, OutsideForm i) ∷ []
 
-unfoldable pub fault_by : ℕ → ℕ → Answer
+unfoldable pub fault_by : ℕ → ℕ → Refusal
 fault_by d i = choose (faults i) d (SharesCells i)
 
--- the rules' verdict, with the count of the row's cells
-abbrev pub shown : Verdict → ℕ → Measured
-shown good n = Cells n
-shown (bad lacks_sign i) n = Refused (NoSign i)
-shown (bad breaks_pair i) n = Refused (PairBroken i)
-shown (bad outside_form i) n = Refused (OutsideForm i)
-shown (bad shares_cells i) n = Refused (SharesCells i)
+-- the rules' verdict, with the count of the row's cells: that count, or the first refusal
+abbrev pub shown : Verdict → ℕ → Answer
+shown good n = Ok n
+shown (bad lacks_sign i) n = Err (NoSign i)
+shown (bad breaks_pair i) n = Err (PairBroken i)
+shown (bad outside_form i) n = Err (OutsideForm i)
+shown (bad shares_cells i) n = Err (SharesCells i)
 
-unfoldable pub measured_of : Table → Text → Measured
+unfoldable pub measured_of : Table → Text → Answer
 measured_of tb t = shown (verdict_of tb t) (length (whole_row tb t))
 
 -- the signs that it leaves: where the text is accepted, their cells are its row
-abbrev pub Drawn : Measured → Table → Text → List ℕ → Type 0
-Drawn (Cells n) tb t ss = joined ss ≡ whole_row tb t
-Drawn (Refused a) tb t ss = Unit
+abbrev pub Drawn : Answer → Table → Text → List ℕ → Type 0
+Drawn (Ok n) tb t ss = joined ss ≡ whole_row tb t
+Drawn (Err a) tb t ss = Unit
 
 -- THE ANSWER to what the first pass finds, and what the lent row then holds
-abbrev pub fitted_by : Measured → ℕ → Answer
-fitted_by (Cells n) room = cond (leb n room) (Done n) (NeedsRoom n)
-fitted_by (Refused a) room = a
+abbrev pub fitted_by : Answer → ℕ → Answer
+fitted_by (Ok n) room = cond (leb n room) (Ok n) (Err (NeedsRoom n))
+fitted_by (Err a) room = Err a
 
-abbrev pub written_by : Measured → Row → List ℕ → List ℕ
-written_by (Cells n) r lent = cond (leb n (length lent)) (laid r lent) lent
-written_by (Refused a) r lent = lent
+abbrev pub written_by : Answer → Row → List ℕ → List ℕ
+written_by (Ok n) r lent = cond (leb n (length lent)) (laid r lent) lent
+written_by (Err a) r lent = lent
 
 -- the same of a normalised text
 unfoldable pub answer_of : Table → Text → ℕ → Answer

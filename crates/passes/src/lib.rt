@@ -3,7 +3,7 @@
 // `transcribe_normal` is what other crates call; what the functions promise is specs/Passes.antt.
 #![tactic(auto)]
 
-ghost use Rattle.std.specs.Prelude.{◌≡◌, ◌≤◌, ◌<◌, ◌*◌, length, take};
+ghost use Rattle.std.specs.Prelude.{◌≡◌, ◌≤◌, ◌<◌, ◌*◌, length, take, Ok};
 ghost use Rattle.rules.specs.Castilian.{castilian};
 ghost use Rattle.rules.specs.Refusals.{longest_text};
 ghost use Rattle.rules.proofs.Plain.{plainly};
@@ -17,13 +17,11 @@ use deeds::{
     QUESTIONS, SEPARATED, WAYS,
 };
 use entries::{CAPITAL, CAPITALS, FREE, MIXED};
-use pairs::Pairs;
 
-// The answer to a print. `Done` has the count of cells written; any other is a refusal, and the lent row is then as it was. Paper 01's number and second
-// number for each are given with the promise (`refusal_of` of the crate `transcriber`).
-#[derive(Clone, Copy)]
-pub enum Answer {
-    Done(usize),
+// Why a print is refused; the lent row is then as it was. Paper 01's number and second number for each are given with the promise (`refusal_of` of the crate
+// `transcriber`).
+#[derive(Clone, Copy, PartialEq, Eq)]
+pub enum Refusal {
     // the normalised text is above 4,096 code points: its length
     TooLong(usize),
     // a code point with no sign: its place
@@ -38,19 +36,12 @@ pub enum Answer {
     NeedsRoom(usize),
 }
 
-// What the first pass finds: the count of cells, or the first refusal.
-#[derive(Clone, Copy)]
-pub enum Measured {
-    Cells(usize),
-    Refused(Answer),
-}
-
-// Where the first pass comes to before it has to ask: a place, the word of the code point there (NO_ENTRY at the end), the state there and the count of the cells
-// up to it. (So no code point is looked up twice.)
+// Where the first pass comes to before it has to ask: a place, the word of the code point there (none at the end), the state there and the count of the cells up to
+// it. (So no code point is looked up twice.)
 #[derive(Clone, Copy)]
 pub struct Reached {
     pub place: usize,
-    pub entry: u64,
+    pub entry: Option<u64>,
     pub state: usize,
     pub cells: usize,
 }
@@ -69,9 +60,6 @@ const DOTS_46: u8 = 40;
 const DOTS_5: u8 = 16;
 
 const DOTS_3456: u8 = 60;
-
-// No code point's word: at the text's end.
-const NO_ENTRY: u64 = 0;
 
 // The sign of a code point that has a cell of its own and is written without: the full stop of an ordinal.
 const NO_CELL: u32 = 0;
@@ -99,8 +87,7 @@ fn alone(sign: u32) -> u32
     entries::sign::two_cells(DOTS_46, entries::sign::third_of(sign))
 }
 
-// Is it a small letter in a run that is supposed to be of capitals only? (The classes below CAPITAL are those of small letters. It is asked of no place but the text's:
-// NO_ENTRY has such a class.)
+// Is it a small letter in a run that is supposed to be of capitals only? (The classes below CAPITAL are those of small letters.)
 fn is_small_among_capitals(state: usize, entry: u64) -> bool
     ensures { result ≡ small_among_capitals state entry }
 {
@@ -108,13 +95,13 @@ fn is_small_among_capitals(state: usize, entry: u64) -> bool
 }
 
 // The refusal of a deed that is a fault.
-fn fault_of(deed: usize, place: usize) -> Answer
+fn fault_of(deed: usize, place: usize) -> Refusal
     ensures { result ≡ fault_by deed place }
 {
     match deed {
-        NO_SIGN => Answer::NoSign(place),
-        OUTSIDE_FORM => Answer::OutsideForm(place),
-        _ => Answer::SharesCells(place),
+        NO_SIGN => Refusal::NoSign(place),
+        OUTSIDE_FORM => Refusal::OutsideForm(place),
+        _ => Refusal::SharesCells(place),
     }
 }
 
@@ -126,31 +113,29 @@ fn draw_usual(text: &[u32], signs: &mut [u32], from: usize, begun: usize, counte
 {
     let mut state: usize = begun;
     let mut n: usize = counted;
-    let mut i: usize = from;
-    while i < text.len() {
+    for i in from..text.len() {
         let entry = entries::entry_of(text[i]);
         if entries::is_usual(entry, state) {
             let sign = entries::sign_in(entry);
             signs[i] = sign;
-            n = n + entries::sign::count_of(sign);
+            n += entries::sign::count_of(sign);
             state = entries::then_in(entry);
         } else {
             if state != MIXED || entries::class_in(entry) != CAPITAL {
                 return Reached {
                     place: i,
-                    entry,
+                    entry: Some(entry),
                     state,
                     cells: n,
                 };
             }
             signs[i] = sign_of(ONE_CAPITAL, entry);
-            n = n + 2;
+            n += 2;
         }
-        i += 1;
     }
     Reached {
-        place: i,
-        entry: NO_ENTRY,
+        place: text.len(),
+        entry: None,
         state,
         cells: n,
     }
@@ -160,8 +145,8 @@ fn draw_usual(text: &[u32], signs: &mut [u32], from: usize, begun: usize, counte
 // is read only where the table has a question. "If it has two letters or more and all are capitals, 46-46 stands once before it. Otherwise every capital in it has
 // 46 before it.": a run that begins with two capitals is supposed to be of capitals only, and drawn so. Where a small letter then stands in it, the sign of its first
 // capital is made anew, and the run is drawn again from behind that. (So a run of capitals only is read once: docs/DECISIONS.md, 31. The state is CAPITALS at the head
-// of the loop only where such a run has just begun, so that its first capital is at i - 1.)
-fn draw(text: &[u32], signs: &mut [u32]) -> Measured
+// of the loop only where such a run has just begun, so that its first capital is at i - 1. Since the loop goes back, it is no `for`.)
+fn draw(text: &[u32], signs: &mut [u32]) -> Result<usize, Refusal>
     requires { (length text.now ≤ longest_text) × (length text.now ≤ length signs.old) }
     ensures { (result ≡ measured_of castilian (plainly text.now)) × Drawn result castilian (plainly text.now) (take (length text.now) signs.new) }
 {
@@ -171,83 +156,83 @@ fn draw(text: &[u32], signs: &mut [u32]) -> Measured
     let mut i: usize = 0;
     while i < text.len() {
         let reached = draw_usual(text, signs, i, state, n);
-        if reached.place < text.len() {
-            if is_small_among_capitals(reached.state, reached.entry) {
-                signs[i - 1] = alone(signs[i - 1]);
-                n = n - 1;
-                state = MIXED;
-            } else {
+        match reached.entry {
+            None => {
                 i = reached.place;
-                let mark = entries::mark_in(reached.entry);
+                n = reached.cells;
+                state = reached.state;
+            }
+            Some(entry) if is_small_among_capitals(reached.state, entry) => {
+                signs[i - 1] = alone(signs[i - 1]);
+                n -= 1;
+                state = MIXED;
+            }
+            Some(entry) => {
+                i = reached.place;
+                let mark = entries::mark_in(entry);
                 if mark != 0 {
-                    let Pairs::Stand(now_open) = pairs::pairs_after(opened, mark) else {
-                        return Measured::Refused(Answer::PairBroken(i));
+                    let Some(now_open) = pairs::pairs_after(opened, mark) else {
+                        return Err(Refusal::PairBroken(i));
                     };
                     opened = now_open;
                 }
-                let told = deeds::deed_of(reached.state, entries::class_in(reached.entry));
+                let told = deeds::deed_of(reached.state, entries::class_in(entry));
                 let deed = if told < QUESTIONS {
                     told
                 } else {
                     turns::settled(text, i + 1, told)
                 };
                 if QUESTIONS <= deed {
-                    return Measured::Refused(fault_of(deed, i));
+                    return Err(fault_of(deed, i));
                 }
-                let sign = sign_of(deed % WAYS, reached.entry);
+                let sign = sign_of(deed % WAYS, entry);
                 signs[i] = sign;
                 n = reached.cells + entries::sign::count_of(sign);
                 state = deed / WAYS;
                 i += 1;
             }
-        } else {
-            i = reached.place;
-            n = reached.cells;
-            state = reached.state;
         }
     }
     if opened == 0 {
-        return Measured::Cells(n);
+        Ok(n)
+    } else {
+        Err(Refusal::PairBroken(i))
     }
-    Measured::Refused(Answer::PairBroken(i))
 }
 
 // Signs of n cells, written if they fit.
-fn fitted(signs: &[u32], row: &mut [u8], n: usize) -> Answer
+fn fitted(signs: &[u32], row: &mut [u8], n: usize) -> Result<usize, Refusal>
     requires { n ≡ length (joined signs.now) }
-    ensures { (result ≡ fitted_by (Measured.Cells n) (length row.old)) × (row.new ≡ written_by (Measured.Cells n) (joined signs.now) row.old) }
+    ensures { (result ≡ fitted_by (Ok n) (length row.old)) × (row.new ≡ written_by (Ok n) (joined signs.now) row.old) }
 {
     if row.len() < n {
-        return Answer::NeedsRoom(n);
+        return Err(Refusal::NeedsRoom(n));
     }
-    Answer::Done(writing::write(signs, row))
+    Ok(writing::write(signs, row))
 }
 
-// A text that is normalised, or that is so with « for “, with room for a sign for each of its code points.
-fn transcribe_by(text: &[u32], signs: &mut [u32], row: &mut [u8]) -> Answer
-    requires { (length text.now ≤ longest_text) × (length text.now ≤ length signs.old) }
+// A text that is normalised, or that is so with « for “, through an array of N signs, which is one for each of its code points at least.
+fn transcribe_with<const N: usize>(text: &[u32], row: &mut [u8]) -> Result<usize, Refusal>
+    requires { (length text.now ≤ N) × (N ≤ longest_text) }
     ensures { (result ≡ answer_of castilian (plainly text.now) (length row.old)) × (row.new ≡ out_of castilian (plainly text.now) row.old) }
 {
-    let measured = draw(text, signs);
-    match measured {
-        Measured::Cells(n) => fitted(&signs[..text.len()], row, n),
-        Measured::Refused(answer) => answer,
-    }
+    let mut signs = [0u32; N];
+    let n = draw(text, &mut signs)?;
+    fitted(&signs[..text.len()], row, n)
 }
 
-// The same, with an array for the signs, so that a caller lends nothing but the text and the row.
-pub fn transcribe_normal(text: &[u32], row: &mut [u8]) -> Answer
+// The same, with an array that is long enough, so that a caller lends nothing but the text and the row. The answer is the count of cells written. (It is drawn into
+// its callers, since an answer that is handed on through memory takes longer than a short line does.)
+#[inline(always)]
+pub fn transcribe_normal(text: &[u32], row: &mut [u8]) -> Result<usize, Refusal>
     requires { length text.now ≤ longest_text }
     ensures { (result ≡ answer_of castilian (plainly text.now) (length row.old)) × (row.new ≡ out_of castilian (plainly text.now) row.old) }
 {
     if text.len() <= LINE {
-        let mut signs = [0u32; LINE];
-        return transcribe_by(text, &mut signs, row);
+        transcribe_with::<LINE>(text, row)
+    } else if text.len() <= PARAGRAPH {
+        transcribe_with::<PARAGRAPH>(text, row)
+    } else {
+        transcribe_with::<LONGEST_TEXT>(text, row)
     }
-    if text.len() <= PARAGRAPH {
-        let mut signs = [0u32; PARAGRAPH];
-        return transcribe_by(text, &mut signs, row);
-    }
-    let mut signs = [0u32; LONGEST_TEXT];
-    transcribe_by(text, &mut signs, row)
 }

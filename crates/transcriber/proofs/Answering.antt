@@ -22,11 +22,10 @@ use Rattle.rules.proofs.Finite.{le_or_lt}
 use Rattle.rules.proofs.Rows.{whole_row}
 use Rattle.rules.proofs.Answers.{choose_le, choose_lt, by_verdict, answered, short_answer}
 use Rattle.transcriber.specs.Promise.{Transcribed, done, refused}
-use Rattle.passes.specs.Passes.{shown, measured_of, fitted_by, written_by, answer_of, out_of}
+use Rattle.passes.specs.Passes.{shown, measured_of, fitted_by, written_by, answer_of, out_of, Answer}
 use Rattle.transcriber.specs.Answering.{accepted_by}
-use Rattle.passes.specs.declared.Answer.{Answer}
-use Rattle.passes.specs.declared.Answer.TheVariants.{Done, TooLong, NoSign, PairBroken, OutsideForm, SharesCells, NeedsRoom}
-use Rattle.passes.specs.declared.Measured.{Measured}
+use Rattle.std.specs.Prelude.{Ok, Err}
+use Rattle.passes.specs.declared.Refusal.TheVariants.{TooLong, NoSign, PairBroken, OutsideForm, SharesCells, NeedsRoom}
 
 -- an answer that accepts is to an accepted text; one that does not leaves the row as it was
 shown_good : (v : Verdict) (m room : ℕ) → accepted_by (fitted_by (shown v m) room) ≡ true → v ≡ good
@@ -39,7 +38,7 @@ shown_good (bad shares_cells i) m room e = absurd (true≢false (sym e))
 shown_kept : (v : Verdict) (m : ℕ) (r : Row) (lent : List ℕ) → accepted_by (fitted_by (shown v m) (length lent)) ≡ false → written_by (shown v m) r lent ≡ lent
 shown_kept good m r lent e = absurd (go (leb m (length lent)) e)
   where
-    go : (b : Bool) → accepted_by (cond b (Done m) (NeedsRoom m)) ≡ false → ⊥
+    go : (b : Bool) → accepted_by (cond b (Ok m) (Err (NeedsRoom m))) ≡ false → ⊥
     go true e = true≢false e
     go false e = true≢false e
 shown_kept (bad lacks_sign i) m r lent e = refl
@@ -63,7 +62,7 @@ module _ (tb : Table) (p : Text) (lent : List ℕ) where
     by : (v : Verdict) → verdict_of tb (normal_of p) ≡ v → PrintAnswer tb p (length lent) (by_verdict v (whole_row tb (normal_of p)) (length lent))
     by v e = subst (PrintAnswer tb p (length lent)) (short_answer tb p (length lent) v short e) (answered tb p (length lent))
 
-    abbrev Kept : Measured → Type 0
+    abbrev Kept : Answer → Type 0
     Kept x = Transcribed tb p lent (fitted_by x (length lent)) (written_by x (whole_row tb (normal_of p)) lent)
 
     kept : (v : Verdict) → verdict_of tb (normal_of p) ≡ v → Kept (shown v (length (whole_row tb (normal_of p))))
@@ -74,12 +73,12 @@ module _ (tb : Table) (p : Text) (lent : List ℕ) where
         (λ l. rw (le-leb n (length lent) l)
         (done r (subst (PrintAnswer tb p (length lent)) (choose_le n (length lent) (gives r) (refuses (needs_room n)) l) (by good e))))
         (λ l. rw (lt-leb n (length lent) l)
-        (refused (NeedsRoom n) (needs_room n) refl
+        (refused (Err (NeedsRoom n)) (needs_room n) refl
         (subst (PrintAnswer tb p (length lent)) (choose_lt n (length lent) (gives r) (refuses (needs_room n)) l) (by good e)))) (le_or_lt n (length lent))
-    kept (bad lacks_sign i) e = refused (NoSign i) (at_fault lacks_sign i) refl (by (bad lacks_sign i) e)
-    kept (bad breaks_pair i) e = refused (PairBroken i) (at_fault breaks_pair i) refl (by (bad breaks_pair i) e)
-    kept (bad outside_form i) e = refused (OutsideForm i) (at_fault outside_form i) refl (by (bad outside_form i) e)
-    kept (bad shares_cells i) e = refused (SharesCells i) (at_fault shares_cells i) refl (by (bad shares_cells i) e)
+    kept (bad lacks_sign i) e = refused (Err (NoSign i)) (at_fault lacks_sign i) refl (by (bad lacks_sign i) e)
+    kept (bad breaks_pair i) e = refused (Err (PairBroken i)) (at_fault breaks_pair i) refl (by (bad breaks_pair i) e)
+    kept (bad outside_form i) e = refused (Err (OutsideForm i)) (at_fault outside_form i) refl (by (bad outside_form i) e)
+    kept (bad shares_cells i) e = refused (Err (SharesCells i)) (at_fault shares_cells i) refl (by (bad shares_cells i) e)
 
     -- the answer to the normalised print
     promised : Transcribed tb p lent (answer_of tb (normal_of p) (length lent)) (out_of tb (normal_of p) lent)
@@ -93,13 +92,13 @@ module _ (tb : Table) (p : Text) (lent : List ℕ) where
         subst (λ (x : Answer). Transcribed tb p lent x new) (sym (h.0 ∙ ap (λ (u : Text). answer_of tb u (length lent)) e))
         (subst (Transcribed tb p lent (answer_of tb (normal_of p) (length lent))) (sym (h.1 ∙ ap (λ (u : Text). out_of tb u lent) e)) promised)
 
-  pub promised_long : (n : ℕ) → longest_text < length (normal_of p) → n ≡ reported (length (normal_of p)) → Transcribed tb p lent (TooLong n) lent
+  pub promised_long : (n : ℕ) → longest_text < length (normal_of p) → n ≡ reported (length (normal_of p)) → Transcribed tb p lent (Err (TooLong n)) lent
   promised_long n l e =
-      refused (TooLong n) (too_long n) refl
+      refused (Err (TooLong n)) (too_long n) refl
       (subst (λ (k : ℕ). PrintAnswer tb p (length lent) (refuses (too_long k))) (sym e) (print_refused (too_long (reported (length (normal_of p)))) (refused_too_long l)))
 
 -- an empty print has the empty row
-pub promised_empty : (tb : Table) (p : Text) (lent : List ℕ) → length p ≡ 0 → Transcribed tb p lent (Done 0) lent
+pub promised_empty : (tb : Table) (p : Text) (lent : List ℕ) → length p ≡ 0 → Transcribed tb p lent (Ok 0) lent
 unfolding normal_of normal_after row_of row_from items_in open_after closed closed_below
 promised_empty tb [] lent e = done [] (transcribed [] (omega arith) refl (omega arith))
 promised_empty tb (c ∷ p) lent e = absurd (omega arith)

@@ -23,34 +23,35 @@ use Rattle.rules.proofs.Castilian.{sane}
 use Rattle.rules.proofs.Answers as answers
 use Rattle.rows.specs.Laid.{laid}
 use Rattle.rows.proofs.Laid.{length_laid, front}
-use Rattle.passes.specs.declared.Answer.{Answer}
-use Rattle.passes.specs.declared.Answer.TheVariants.{Done, TooLong, NoSign, PairBroken, OutsideForm, SharesCells, NeedsRoom}
+use Rattle.std.specs.Prelude.{Ok, Err}
+use Rattle.passes.specs.declared.Refusal.TheVariants.{TooLong, NoSign, PairBroken, OutsideForm, SharesCells, NeedsRoom}
+use Rattle.passes.specs.Passes.{Answer}
 use Rattle.transcriber.specs.Promise.{refusal_of, Transcribed, done, refused}
 use Rattle.transcriber.specs.Claims.{OneOutcome, Refuses, RefusedExactly, CountIsLength, RestAsItWas, RefusalWritesNothing, ReadsBack}
 
 -- an answer is known by its refusal
 back : Refusal → Answer
-back (too_long n) = TooLong n
-back (at_fault lacks_sign n) = NoSign n
-back (at_fault breaks_pair n) = PairBroken n
-back (at_fault outside_form n) = OutsideForm n
-back (at_fault shares_cells n) = SharesCells n
-back (needs_room n) = NeedsRoom n
-back (not_a_cell n) = Done n
-back no_text = Done 0
+back (too_long n) = Err (TooLong n)
+back (at_fault lacks_sign n) = Err (NoSign n)
+back (at_fault breaks_pair n) = Err (PairBroken n)
+back (at_fault outside_form n) = Err (OutsideForm n)
+back (at_fault shares_cells n) = Err (SharesCells n)
+back (needs_room n) = Err (NeedsRoom n)
+back (not_a_cell n) = Ok n
+back no_text = Ok 0
 
 some_same : {A : Type 0} {x y : A} → some x ≡ some y → x ≡ y
 some_same e = cc
 
 known : (a : Answer) (x : Refusal) → refusal_of a ≡ some x → a ≡ back x
 unfolding back
-known (Done n) x e = nothing e
-known (TooLong n) x e = ap back (some_same e)
-known (NoSign n) x e = ap back (some_same e)
-known (PairBroken n) x e = ap back (some_same e)
-known (OutsideForm n) x e = ap back (some_same e)
-known (SharesCells n) x e = ap back (some_same e)
-known (NeedsRoom n) x e = ap back (some_same e)
+known (Ok n) x e = nothing e
+known (Err (TooLong n)) x e = ap back (some_same e)
+known (Err (NoSign n)) x e = ap back (some_same e)
+known (Err (PairBroken n)) x e = ap back (some_same e)
+known (Err (OutsideForm n)) x e = ap back (some_same e)
+known (Err (SharesCells n)) x e = ap back (some_same e)
+known (Err (NeedsRoom n)) x e = ap back (some_same e)
 
 gives_same : (r s : Row) → gives r ≡ gives s → r ≡ s
 gives_same r s e = cc
@@ -61,7 +62,7 @@ refuses_same x y e = cc
 gives_not_refuses : {B : Type 0} {r : Row} {x : Refusal} → gives r ≡ refuses x → B
 gives_not_refuses e = let z : ◌≡◌ {A = ℕ} 0 1 = cc in absurd (omega arith)
 
-done_same : (m n : ℕ) → Done m ≡ Done n → m ≡ n
+done_same : (m n : ℕ) → ◌≡◌ {A = Answer} (Ok m) (Ok n) → m ≡ n
 done_same m n e = cc
 
 -- behind what was laid all is as it was
@@ -75,7 +76,7 @@ module _ (tb : Table) where
   pub one_outcome_in : OneOutcome tb
   one_outcome_in p lent a b new old (done r g) (done s h) =
       let e : r ≡ s = gives_same r s (one p lent (gives r) (gives s) g h) in
-      (ap (λ (x : Row). Done (length x)) e, ap (λ (x : Row). laid x lent) e)
+      (ap (λ (x : Row). Ok (length x)) e, ap (λ (x : Row). laid x lent) e)
   one_outcome_in p lent a b new old (done r g) (refused c x q h) = gives_not_refuses (one p lent (gives r) (refuses x) g h)
   one_outcome_in p lent a b new old (refused c x q h) (done r g) = gives_not_refuses (one p lent (gives r) (refuses x) g h)
   one_outcome_in p lent a b new old (refused c x q h) (refused d y w k) =
@@ -107,12 +108,12 @@ module _ (tb : Table) where
   abbrev Given : Text → List ℕ → ℕ → List ℕ → Type 0
   Given p lent n new = (r : Row) × PrintAnswer tb p (length lent) (gives r) × (n ≡ length r) × (new ≡ laid r lent)
 
-  given_by : (p : Text) (lent : List ℕ) (a : Answer) (new : List ℕ) → Transcribed tb p lent a new → (n : ℕ) → a ≡ Done n → Given p lent n new
+  given_by : (p : Text) (lent : List ℕ) (a : Answer) (new : List ℕ) → Transcribed tb p lent a new → (n : ℕ) → a ≡ Ok n → Given p lent n new
   given_by p lent a new (done r g) n e = (r, g, sym (done_same (length r) n e), refl)
   given_by p lent a new (refused c x q h) n e = nothing (sym (ap refusal_of e) ∙ q)
 
-  given_row : (p : Text) (lent : List ℕ) (n : ℕ) (new : List ℕ) → Transcribed tb p lent (Done n) new → Given p lent n new
-  given_row p lent n new t = given_by p lent (Done n) new t n refl
+  given_row : (p : Text) (lent : List ℕ) (n : ℕ) (new : List ℕ) → Transcribed tb p lent (Ok n) new → Given p lent n new
+  given_row p lent n new t = given_by p lent (Ok n) new t n refl
 
   reads_of : (p : Text) (room : ℕ) (r : Row) → PrintAnswer tb p room (gives r) → Reads tb r (normal_of p) × (length r ≤ room)
   reads_of p room r (transcribed s l e k) = (e, k)

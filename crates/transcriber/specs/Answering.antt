@@ -1,13 +1,13 @@
 -- What `accepts` promises: whether an answer is to a text that the rules accept. Assumes nothing.
-use Rattle.std.specs.Prelude.{Bool, true, false}
-use Rattle.passes.specs.declared.Answer.{Answer}
-use Rattle.passes.specs.declared.Answer.TheVariants.{Done, TooLong, NoSign, PairBroken, OutsideForm, SharesCells, NeedsRoom}
+use Rattle.std.specs.Prelude.{Bool, true, false, Ok, Err}
+use Rattle.passes.specs.Passes.{Answer}
+use Rattle.passes.specs.declared.Refusal.TheVariants.{TooLong, NoSign, PairBroken, OutsideForm, SharesCells, NeedsRoom}
 
 abbrev pub accepted_by : Answer → Bool
-accepted_by (Done n) = true
-accepted_by (TooLong n) = false
-accepted_by (NoSign n) = false
-accepted_by (PairBroken n) = false
-accepted_by (OutsideForm n) = false
-accepted_by (SharesCells n) = false
-accepted_by (NeedsRoom n) = true
+accepted_by (Ok n) = true
+accepted_by (Err (TooLong n)) = false
+accepted_by (Err (NoSign n)) = false
+accepted_by (Err (PairBroken n)) = false
+accepted_by (Err (OutsideForm n)) = false
+accepted_by (Err (SharesCells n)) = false
+accepted_by (Err (NeedsRoom n)) = true

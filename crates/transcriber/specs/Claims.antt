@@ -1,7 +1,7 @@
 -- What follows from the promise of `transcribe`, as types; each is proved of any table that is sane, and of the Castilian one, under the same name in
 -- snake case in proofs/Claims.antt. `Transcribed tb p lent a new` is the promise: print p, a lent row that held `lent`, answer a, and then `new`.
 -- Assumes nothing.
-use Rattle.std.specs.Prelude.{List, ◌⊎◌, ◌↔◌, ◌≡◌, ℕ, ◌+◌, ◌≤◌, ◌<◌, length, take, get_or}
+use Rattle.std.specs.Prelude.{List, ◌⊎◌, ◌↔◌, ◌≡◌, ℕ, Ok, ◌+◌, ◌≤◌, ◌<◌, length, take, get_or}
 use Rattle.std.proofs.Math.Option.{some}
 use Rattle.rules.specs.Cells.{Text, Row}
 use Rattle.rules.specs.Sorts.{Table}
@@ -9,8 +9,7 @@ use Rattle.rules.specs.Normal.{normal_of}
 use Rattle.rules.specs.Rows.{Reads, Accepted}
 use Rattle.rules.specs.Refusals.{Refusal, longest_text}
 use Rattle.rules.specs.Answers.{gives, RowAnswer}
-use Rattle.passes.specs.declared.Answer.{Answer}
-use Rattle.passes.specs.declared.Answer.TheVariants.{Done}
+use Rattle.passes.specs.Passes.{Answer}
 use Rattle.transcriber.specs.Promise.{refusal_of, Transcribed}
 
 -- "any two results allowed by one statement are proved equal"
@@ -32,13 +31,13 @@ RefusedExactly tb =
 -- "On success the answer is the count written": the count is the length of the row that the rules give, and the lent row begins with it
 abbrev pub CountIsLength : Table → Type 0
 CountIsLength tb =
-    (p : Text) (lent : List ℕ) (n : ℕ) (new : List ℕ) → Transcribed tb p lent (Done n) new
+    (p : Text) (lent : List ℕ) (n : ℕ) (new : List ℕ) → Transcribed tb p lent (Ok n) new
     → (r : Row) × Reads tb r (normal_of p) × (n ≡ length r) × (take n new ≡ r)
 
 -- "all elements after the count are as they were", and there are as many
 abbrev pub RestAsItWas : Table → Type 0
 RestAsItWas tb =
-    (p : Text) (lent : List ℕ) (n : ℕ) (new : List ℕ) → Transcribed tb p lent (Done n) new
+    (p : Text) (lent : List ℕ) (n : ℕ) (new : List ℕ) → Transcribed tb p lent (Ok n) new
     → (length new ≡ length lent) × ((k : ℕ) → get_or new (n + k) 0 ≡ get_or lent (n + k) 0)
 
 -- "A refusal writes nothing."
@@ -48,5 +47,5 @@ RefusalWritesNothing tb = (p : Text) (lent : List ℕ) (a : Answer) (new : List 
 -- Demand 2: "reading them, with room enough, gives back the normalised print"
 abbrev pub ReadsBack : Table → Type 0
 ReadsBack tb =
-    (p : Text) (lent : List ℕ) (n : ℕ) (new : List ℕ) → Transcribed tb p lent (Done n) new → (enough : ℕ) → length (normal_of p) ≤ enough
+    (p : Text) (lent : List ℕ) (n : ℕ) (new : List ℕ) → Transcribed tb p lent (Ok n) new → (enough : ℕ) → length (normal_of p) ≤ enough
     → RowAnswer tb (take n new) enough (gives (normal_of p))

@@ -1,9 +1,9 @@
 -- The cells of signs, one behind another: one more sign is stored, one is taken from the front. Assumes nothing.
 use mathlib.Core.Path.{◌≡◌, refl, sym, ap, ◌∙◌}
 use mathlib.Core.List.{List, [], ◌∷◌, ◌++◌, append_assoc, append-nil}
-use Prim.Native.Nat.{ℕ, ◌+◌, ◌≤◌, ◌<◌}
+use Prim.Native.Nat.{ℕ, ◌+◌, ◌<◌}
 use native.Mathlib.Numerals.{add-one}
-use lib.ListN.{length, take, drop, set, get_or, drop_of_length-le}
+use lib.ListN.{length, take, drop, set, get_or}
 use lib.Seq.{drop-cons, take-suc-set}
 use Rattle.rules.specs.Cells.{Row}
 use Rattle.entries.specs.SignWords.{cells_in}
@@ -23,6 +23,3 @@ module _ (ss : List ℕ) (i : ℕ) where
   -- the sign at i, and those behind it
   pub joined_here : i < length ss → joined (drop i ss) ≡ cells_in (get_or ss i 0) ++ joined (drop (i + 1) ss)
   joined_here l = ap joined (drop-cons ss i 0 l) ∙ ap (λ (k : ℕ). cells_in (get_or ss i 0) ++ joined (drop k ss)) (sym (add-one i))
-
-  pub joined_end : length ss ≤ i → joined (drop i ss) ≡ []
-  joined_end l = ap joined (drop_of_length-le ss l)

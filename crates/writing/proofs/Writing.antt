@@ -1,18 +1,17 @@
 -- The second pass in the middle of the signs: the lent row, with the cells of the signs still to come laid behind what is written, is the row that it will
 -- be (`Wid`). Assumes nothing.
-use mathlib.Core.Path.{◌≡◌, refl, sym, ap, ◌∙◌, subst}
+use mathlib.Core.Path.{◌≡◌, sym, ap, ◌∙◌, subst}
 use mathlib.Core.List.{List, ◌++◌}
-use Prim.Native.Nat.{ℕ, ◌+◌, ◌-◌, ◌≤◌, ◌<◌, zero-le}
+use Prim.Native.Nat.{ℕ, ◌+◌, ◌-◌, ◌≤◌, ◌<◌}
 use native.Mathlib.Omega.{arith}
-use native.Mathlib.Nat.{zero-add}
-use lib.ListN.{length, take, drop, get_or, length-append}
+use lib.ListN.{length, take, drop, get_or}
 use borrow.Rule.Slice.PartMut.{put_mid}
 use Rattle.rules.specs.Cells.{Row}
 use Rattle.rows.specs.Laid.{laid}
-use Rattle.rows.proofs.Laid.{turn_room, turn_length, turn_row, turn_count, turn_end}
+use Rattle.rows.proofs.Laid.{turn_room, turn_length, turn_row, turn_count}
 use Rattle.entries.specs.SignWords.{cells_in}
 use Rattle.writing.specs.Joined.{joined}
-use Rattle.writing.proofs.Joined.{joined_here, joined_end}
+use Rattle.writing.proofs.Joined.{joined_here}
 
 -- what `row`, `n` and `i` are between two turns
 pub record Wid (signs row₀ row : List ℕ) (n i : ℕ) : Type 0 where
@@ -22,9 +21,6 @@ pub record Wid (signs row₀ row : List ℕ) (n i : ℕ) : Type 0 where
   pub laid_on : take n row ++ laid (joined (drop i signs)) (drop n row) ≡ laid (joined signs) row₀
 
 module _ (signs row₀ : List ℕ) where
-  pub wid_start : Wid signs row₀ row₀ 0 0
-  wid_start = record { inside = zero-le; same = refl; count = zero-add _; laid_on = refl }
-
   module _ (row : List ℕ) (n i : ℕ) (m : Wid signs row₀ row n i) (room₀ : length (joined signs) ≤ length row₀) where
     module _ (l : i < length signs) where
       -- the sign at hand, and what is still to come
@@ -44,9 +40,6 @@ module _ (signs row₀ : List ℕ) where
       pub wid_room : length here ≤ length (take (length row - n) (drop n row))
       wid_room = turn_room row n here rest fits_row
 
-      pub wid_few : n + length here ≤ length row
-      wid_few = omega (arith, fits_row, length-append here rest)
-
       turn : (r : ℕ) (left : List ℕ) → r ≡ length here → left ≡ laid here (take (length row - n) (drop n row))
           → Wid signs row₀ (put_mid n (length row - n) row left) (n + r) (i + 1)
       turn r left count wrote =
@@ -63,6 +56,3 @@ module _ (signs row₀ : List ℕ) where
       pub wid_on : (r : ℕ) (left new : List ℕ) → r ≡ length here → left ≡ laid here (take (length row - n) (drop n row))
           → new ≡ put_mid n (length row - n) row left → Wid signs row₀ new (n + r) (i + 1)
       wid_on r left new count wrote is_new = subst (λ (x : List ℕ). Wid signs row₀ x (n + r) (i + 1)) (sym is_new) (turn r left count wrote)
-
-    pub wid_end : length signs ≤ i → (n ≡ length (joined signs)) × (row ≡ laid (joined signs) row₀)
-    wid_end l = turn_end row row₀ n (joined (drop i signs)) (joined signs) (joined_end signs i l) m.count m.laid_on

@@ -14,24 +14,22 @@ fn put_cell(row: &mut [u8], cell: u8)
     row[0] = cell;
 }
 
-// Writes the cells of any sign there.
+// Writes the cells of any sign there. (Two and three cells go by one arm: four arms would be a table of jumps, which is slower.)
 fn put_cells(row: &mut [u8], sign: u32)
     requires { length (cells_in sign) ≤ length row.old }
     ensures { row.new ≡ laid (cells_in sign) row.old }
 {
-    let count = entries::sign::count_of(sign);
-    if count == 0 {
-        return;
+    match entries::sign::count_of(sign) {
+        0 => {}
+        1 => row[0] = entries::sign::first_of(sign),
+        count => {
+            row[0] = entries::sign::first_of(sign);
+            row[1] = entries::sign::second_of(sign);
+            if count == 3 {
+                row[2] = entries::sign::third_of(sign);
+            }
+        }
     }
-    row[0] = entries::sign::first_of(sign);
-    if count == 1 {
-        return;
-    }
-    row[1] = entries::sign::second_of(sign);
-    if count == 2 {
-        return;
-    }
-    row[2] = entries::sign::third_of(sign);
 }
 
 // "Each sign goes straight to its own stretch of the lent row": its writer is lent the rest of the row, from the count on. Most signs have one cell, so that
@@ -41,18 +39,15 @@ pub fn write(signs: &[u32], row: &mut [u8]) -> usize
     ensures { (result ≡ length (joined signs.now)) × (row.new ≡ laid (joined signs.now) row.old) }
 {
     let mut n: usize = 0;
-    let mut place: usize = 0;
-    while place < signs.len() {
-        let sign = signs[place];
-        let count = entries::sign::count_of(sign);
+    for sign in signs {
+        let count = entries::sign::count_of(*sign);
         if count == 1 {
-            let cell = entries::sign::first_of(sign);
+            let cell = entries::sign::first_of(*sign);
             put_cell(&mut row[n..], cell);
         } else {
-            put_cells(&mut row[n..], sign);
+            put_cells(&mut row[n..], *sign);
         }
-        n = n + count;
-        place += 1;
+        n += count;
     }
     n
 }

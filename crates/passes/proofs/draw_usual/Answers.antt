@@ -1,12 +1,9 @@
--- `draw_usual`: between two turns the pass has come on from where it began, whatever pairs are open (`Under`). The measure is how much of the text is left.
--- Assumes nothing.
+-- `draw_usual`: between two turns the pass has come on from where it began, whatever pairs are open (`Under`). Assumes nothing.
 use mathlib.Core.Path.{◌≡◌, refl, sym, ap, ◌∙◌, subst}
 use mathlib.Core.List.{List}
 use mathlib.Core.Logic.{inl, inr}
-use Prim.Native.Nat.{ℕ, ◌+◌, ◌-◌, ◌≤◌, ◌<◌}
+use Prim.Native.Nat.{ℕ, ◌+◌, ◌≤◌, ◌<◌}
 use native.Mathlib.Omega.{arith}
-use lib.Dec.{eqb, eqb→eq}
-use borrow.Author.Tests.{not-false}
 use lib.ListN.{length, get_or}
 use Rattle.rules.specs.Castilian.{castilian}
 use Rattle.rules.proofs.Plain.{plainly, plainly_length, plainly_at}
@@ -14,7 +11,8 @@ use Rattle.entries.specs.Entries.{entry_of, class_in, sign_in, then_in, usual_in
 use Rattle.passes.specs.Middle.{Carried}
 use Rattle.passes.specs.Passes.{sign_by}
 use Rattle.passes.proofs.Going.{held}
-use Rattle.passes.proofs.Carrying.{Under, under_start, under_usual, under_capital, reached}
+use Rattle.passes.proofs.Carrying.{Under, under_start, under_usual, under_capital, reached, reached_end}
+use Rattle.std.specs.Prelude.{Some}
 use Rattle.passes.proofs.draw_usual.Goals as goal
 use Rattle.passes.proofs.draw_usual.Lts as lts
 use Rattle.passes.proofs.draw_usual.Tie as tie
@@ -71,13 +69,13 @@ usual-told u = u.is_usual.ensures ∙ ap (λ (w : ℕ). usual_in w (at-u u).loop
 -- where it returns before the end
 left : (e : Else1) → let l = at-u e.before in let s = start l in
     Carried castilian (text l) s.args.signs.now l.loop-i.signs s.args.begun s.args.counted s.args.from
-    (record { place = l.loop-i.i; entry = e.before.before.entry_of-entry.result; state = l.loop-i.state; cells = l.loop-i.n })
+    (record { place = l.loop-i.i; entry = Some e.before.before.entry_of-entry.result; state = l.loop-i.state; cells = l.loop-i.n })
 left e =
     let u = e.before in
     let l = at-u u in
     let s = start l in
     reached castilian held (text l) s.args.signs.now s.args.begun s.args.counted s.args.from l.loop-i.signs l.loop-i.state l.loop-i.n l.loop-i.i l.loop-i.invariant
-    u.before.entry_of-entry.result (λ k. entry-is u) (λ k. sym (usual-told u) ∙ e.if-is_usual.false)
+    (inside u) u.before.entry_of-entry.result (entry-is u) (sym (usual-told u) ∙ e.if-is_usual.false)
 
 pub loop-i-init : goal.loop-i-init
 loop-i-init c =
@@ -117,5 +115,5 @@ pub returns : goal.returns
 returns c =
     let l = c.before.before in
     let s = start l in
-    reached castilian held (text l) s.args.signs.now s.args.begun s.args.counted s.args.from l.loop-i.signs l.loop-i.state l.loop-i.n l.loop-i.i l.loop-i.invariant
-    0 (λ k. absurd (omega (arith, k, long l, c.before.loop-i-test.false))) (λ k. absurd (omega (arith, k, long l, c.before.loop-i-test.false)))
+    reached_end castilian held (text l) s.args.signs.now s.args.begun s.args.counted s.args.from l.loop-i.signs l.loop-i.state l.loop-i.n l.loop-i.i l.loop-i.invariant
+    (length (print l)) (sym (long l)) (omega (arith, l.loop-i.invariant.inside, long l, c.before.loop-i-test.false))

@@ -1,8 +1,4 @@
--- `draw_usual`: between two turns the pass has come on from where it began, whatever pairs are open (`Under`). The measure is how much of the text is left.
--- Assumes nothing.
-use mathlib.Core.Path.{◌≡◌}
-use Prim.Native.Nat.{◌+◌, ◌-◌}
-use lib.ListN.{length}
+-- `draw_usual`: between two turns the pass has come on from where it began, whatever pairs are open (`Under`). Assumes nothing.
 use Rattle.rules.specs.Castilian.{castilian}
 use Rattle.rules.proofs.Plain.{plainly}
 use Rattle.passes.proofs.Carrying.{Under}
@@ -10,6 +6,3 @@ use Rattle.passes.proofs.draw_usual.Given as goal
 
 abbrev pub invariant-loop-i : goal.invariant-loop-i
 invariant-loop-i l = Under castilian (plainly l.text) l.initial.signs l.signs l.begun l.counted l.from l.state l.n l.i
-
-abbrev pub decreases-loop-i : goal.decreases-loop-i
-decreases-loop-i l = length l.text - l.i

@@ -1,7 +1,7 @@
 -- `fault_of`: a fault that is none of the first two is the third. Assumes nothing.
 use mathlib.Core.Path.{sym}
 use Rattle.passes.specs.Passes.{faults, fault_by}
-use Rattle.passes.specs.declared.Answer.TheVariants.{SharesCells}
+use Rattle.passes.specs.declared.Refusal.TheVariants.{SharesCells}
 use Rattle.entries.proofs.Keys.{chosen_rest}
 use Rattle.passes.proofs.fault_of.Goals as goal
 

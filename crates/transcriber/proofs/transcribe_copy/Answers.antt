@@ -3,5 +3,5 @@ use native.Mathlib.Omega.{arith}
 use Rattle.rules.proofs.Normal.{normal_length}
 use Rattle.transcriber.proofs.transcribe_copy.Goals as goal
 
-pub transcribe_in-requires : goal.transcribe_in-requires
-transcribe_in-requires c = λ l. omega (arith, normal_length c.before.before.before.before.before.before.args.print.now)
+pub transcribe_with-requires : goal.transcribe_with-requires
+transcribe_with-requires c = (λ l. omega (arith, normal_length c.args.print.now), omega arith)
