@@ -25,12 +25,7 @@ ghost use Rattle.rules.specs.Castilian.{castilian};
 ghost use Rattle.rules.proofs.Plain.{one_for};
 ghost use Rattle.entries.specs.Entries.{entry_of};
 
-use crate::{
-    A_TO_J, BAR, BARRED, CAPITAL, CAPITALS, CLASS, COMMA, COUNT, DASH, DASHED, FEMININE, FIRST,
-    FREE, FULL_STOP, GUARDED, HYPHEN, HYPHENED, LOWER, LOWERED, MARK, MASCULINE, MIXED, NUMBER,
-    ONE, ORDINAL, OTHER_DIGIT, OTHER_SIGN, OTHER_SMALL, PERCENT, SECOND, THEN, THIRD, UNDER,
-    UNLISTED, USUAL,
-};
+use crate::{CLASS, COUNT, Class, FIRST, LOWER, MARK, SECOND, State, THEN, THIRD, USUAL};
 
 // The cells, by their dots.
 TEXT
@@ -50,29 +45,29 @@ printf '%s\n' "$signs" | awk -F '\t' '
 
 cat <<'TEXT'
 // The bit of a state, and those of all.
-const IN_NUMBER: u64 = USUAL << NUMBER;
+const IN_NUMBER: u64 = USUAL << State::Number as u64;
 
-const IN_LOWERED: u64 = USUAL << LOWERED;
+const IN_LOWERED: u64 = USUAL << State::Lowered as u64;
 
-const IN_ORDINAL: u64 = USUAL << ORDINAL;
+const IN_ORDINAL: u64 = USUAL << State::Ordinal as u64;
 
-const IN_UNDER: u64 = USUAL << UNDER;
+const IN_UNDER: u64 = USUAL << State::Under as u64;
 
-const IN_GUARDED: u64 = USUAL << GUARDED;
+const IN_GUARDED: u64 = USUAL << State::Guarded as u64;
 
-const IN_HYPHENED: u64 = USUAL << HYPHENED;
+const IN_HYPHENED: u64 = USUAL << State::Hyphened as u64;
 
-const IN_DASHED: u64 = USUAL << DASHED;
+const IN_DASHED: u64 = USUAL << State::Dashed as u64;
 
-const IN_CAPITALS: u64 = USUAL << CAPITALS;
+const IN_CAPITALS: u64 = USUAL << State::Capitals as u64;
 
-const IN_ANY: u64 = (USUAL << FREE)
+const IN_ANY: u64 = (USUAL << State::Free as u64)
     + IN_CAPITALS
-    + (USUAL << MIXED)
+    + (USUAL << State::Mixed as u64)
     + IN_NUMBER
     + IN_LOWERED
     + IN_ORDINAL
-    + (USUAL << BARRED)
+    + (USUAL << State::Barred as u64)
     + IN_UNDER
     + IN_GUARDED
     + IN_HYPHENED
@@ -80,46 +75,50 @@ const IN_ANY: u64 = (USUAL << FREE)
 
 // What a class is: its number, the state after it where it is written as usual, and the states in which it is. (A small letter in a run that was supposed to be of capitals
 // only is not: such a run is drawn anew, `passes::draw`.)
-const AS_A_TO_J: u64 = CLASS * A_TO_J as u64 + THEN * MIXED as u64 + IN_ANY
+const AS_A_TO_J: u64 = CLASS * Class::AToJ as u64 + THEN * State::Mixed as u64 + IN_ANY
     - IN_CAPITALS
     - IN_NUMBER
     - IN_UNDER
     - IN_GUARDED;
 
-const AS_OTHER_SMALL: u64 = CLASS * OTHER_SMALL as u64 + THEN * MIXED as u64 + IN_ANY - IN_CAPITALS;
+const AS_OTHER_SMALL: u64 = CLASS * Class::OtherSmall as u64 + THEN * State::Mixed as u64 + IN_ANY
+    - IN_CAPITALS;
 
-const AS_CAPITAL: u64 = CLASS * CAPITAL as u64 + THEN * CAPITALS as u64 + IN_CAPITALS;
+const AS_CAPITAL: u64 = CLASS * Class::Capital as u64 + THEN * State::Capitals as u64 + IN_CAPITALS;
 
-const AS_ONE: u64 = CLASS * ONE as u64 + THEN * NUMBER as u64 + IN_NUMBER;
+const AS_ONE: u64 = CLASS * Class::One as u64 + THEN * State::Number as u64 + IN_NUMBER;
 
-const AS_OTHER_DIGIT: u64 = CLASS * OTHER_DIGIT as u64 + THEN * NUMBER as u64 + IN_NUMBER;
+const AS_OTHER_DIGIT: u64 = CLASS * Class::OtherDigit as u64
+    + THEN * State::Number as u64
+    + IN_NUMBER;
 
-const AS_FULL_STOP: u64 = CLASS * FULL_STOP as u64 + THEN * FREE as u64 + IN_ANY
+const AS_FULL_STOP: u64 = CLASS * Class::FullStop as u64 + THEN * State::Free as u64 + IN_ANY
     - IN_NUMBER
     - IN_LOWERED;
 
-const AS_COMMA: u64 = CLASS * COMMA as u64 + THEN * FREE as u64 + IN_ANY - IN_NUMBER;
+const AS_COMMA: u64 = CLASS * Class::Comma as u64 + THEN * State::Free as u64 + IN_ANY - IN_NUMBER;
 
-const AS_HYPHEN: u64 = CLASS * HYPHEN as u64 + THEN * HYPHENED as u64 + IN_ANY
+const AS_HYPHEN: u64 = CLASS * Class::Hyphen as u64 + THEN * State::Hyphened as u64 + IN_ANY
     - IN_HYPHENED
     - IN_DASHED;
 
-const AS_DASH: u64 = CLASS * DASH as u64 + THEN * DASHED as u64 + IN_ANY - IN_HYPHENED;
+const AS_DASH: u64 = CLASS * Class::Dash as u64 + THEN * State::Dashed as u64 + IN_ANY
+    - IN_HYPHENED;
 
-const AS_BAR: u64 = CLASS * BAR as u64 + THEN * BARRED as u64 + IN_LOWERED;
+const AS_BAR: u64 = CLASS * Class::Bar as u64 + THEN * State::Barred as u64 + IN_LOWERED;
 
-const AS_MASCULINE: u64 = CLASS * MASCULINE as u64 + THEN * FREE as u64 + IN_ORDINAL;
+const AS_MASCULINE: u64 = CLASS * Class::Masculine as u64 + THEN * State::Free as u64 + IN_ORDINAL;
 
-const AS_FEMININE: u64 = CLASS * FEMININE as u64 + THEN * GUARDED as u64 + IN_ORDINAL;
+const AS_FEMININE: u64 = CLASS * Class::Feminine as u64 + THEN * State::Guarded as u64 + IN_ORDINAL;
 
-const AS_PERCENT: u64 = CLASS * PERCENT as u64 + THEN * FREE as u64 + IN_ANY;
+const AS_PERCENT: u64 = CLASS * Class::Percent as u64 + THEN * State::Free as u64 + IN_ANY;
 
-const AS_OTHER_SIGN: u64 = CLASS * OTHER_SIGN as u64 + THEN * FREE as u64 + IN_ANY;
+const AS_OTHER_SIGN: u64 = CLASS * Class::OtherSign as u64 + THEN * State::Free as u64 + IN_ANY;
 
 // A pair mark is another sign that is never written as usual: whether its pair allows it is asked first.
-const AS_PAIR_MARK: u64 = CLASS * OTHER_SIGN as u64 + THEN * FREE as u64;
+const AS_PAIR_MARK: u64 = CLASS * Class::OtherSign as u64 + THEN * State::Free as u64;
 
-const AS_UNLISTED: u64 = CLASS * UNLISTED as u64 + THEN * FREE as u64;
+const AS_UNLISTED: u64 = CLASS * Class::Unlisted as u64 + THEN * State::Free as u64;
 
 // A pair mark of kind 0; of kind k, MARK * 2 * k more.
 const OPENER: u64 = MARK;

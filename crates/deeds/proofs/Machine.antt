@@ -3,7 +3,7 @@
 use mathlib.Core.Path.{◌≡◌, refl, sym, ap, ◌∙◌, subst}
 use mathlib.Core.Bool.{Bool, true, false, ◌&&◌, ◌||◌, not, cond, beq, true≢false}
 use mathlib.Core.List.{List, [], ◌∷◌}
-use Prim.Native.Nat.{ℕ, ◌+◌, ◌*◌, ◌/◌, ◌%◌, ◌^◌, ◌<◌}
+use Prim.Native.Nat.{ℕ, ◌+◌, ◌*◌, ◌/◌, ◌%◌, ◌^◌, ◌≤◌, ◌<◌}
 use native.Mathlib.Omega.{arith}
 use lib.Dec.{T, eqb, ltb, eqb→eq, ltb→lt}
 use borrow.Author.Tests.{ne_eqb}
@@ -18,6 +18,11 @@ use Rattle.entries.specs.States as state
 use Rattle.entries.specs.Entries.{then_of, usual_states, bits}
 use Rattle.deeds.specs.Acts as act
 use Rattle.deeds.specs.Deeds.{deeds}
+use Rattle.deeds.specs.Numbers.{act_number, fault_number}
+use Rattle.deeds.specs.declared.Act.{Act}
+use Rattle.deeds.specs.declared.Act.TheVariants.{Sign, Letter, SeparatedLetter, CapitalAlone, FirstOfCapitals, CapitalOfMany, FirstOfNumber, Digit, PointInside, PointAfter, FirstOfForm, LowerDigit, StopOfOrdinal, FeminineMark, BarOfFraction, DigitUnder, TheHyphen, TheDash}
+use Rattle.deeds.specs.declared.Fault.{Fault}
+use Rattle.deeds.specs.declared.Fault.TheVariants.{NoSign, OutsideForm, SharesCells}
 use Rattle.deeds.specs.Stages.{stage_at, deed_of, settled_by, way_of, silent_as, act_of}
 
 turn_right : Past → Class → Future → Bool
@@ -71,6 +76,41 @@ settled_else d f a b c e = sym (rw (ne_eqb d act.begins_run a, ne_eqb d act.begi
 
 pub settled_low : (d : ℕ) (f : Future) → d < act.questions → settled_by d f ≡ d
 settled_low d f l = sym (settled_else d f (λ e. omega (arith, l, e)) (λ e. omega (arith, l, e)) (λ e. omega (arith, l, e)) (λ e. omega (arith, l, e)))
+
+-- what is written is below the questions, and neither it nor a fault is one of them
+pub act_small : (a : Act) → act_number a < act.questions
+act_small Sign = omega arith
+act_small Letter = omega arith
+act_small SeparatedLetter = omega arith
+act_small CapitalAlone = omega arith
+act_small FirstOfCapitals = omega arith
+act_small CapitalOfMany = omega arith
+act_small FirstOfNumber = omega arith
+act_small Digit = omega arith
+act_small PointInside = omega arith
+act_small PointAfter = omega arith
+act_small FirstOfForm = omega arith
+act_small LowerDigit = omega arith
+act_small StopOfOrdinal = omega arith
+act_small FeminineMark = omega arith
+act_small BarOfFraction = omega arith
+act_small DigitUnder = omega arith
+act_small TheHyphen = omega arith
+act_small TheDash = omega arith
+
+pub fault_great : (x : Fault) → act.questions ≤ fault_number x
+fault_great NoSign = omega arith
+fault_great OutsideForm = omega arith
+fault_great SharesCells = omega arith
+
+pub settled_act : (a : Act) (f : Future) → settled_by (act_number a) f ≡ act_number a
+settled_act a f = settled_low (act_number a) f (act_small a)
+
+pub settled_fault : (x : Fault) (f : Future) → settled_by (fault_number x) f ≡ fault_number x
+unfolding settled_by
+settled_fault NoSign f = refl
+settled_fault OutsideForm f = refl
+settled_fault SharesCells f = refl
 
 -- a capital in a run that has a small letter has a 46 of its own
 pub mixed_capital : (f : Future) → settled_by (deed_of state.mixed (class_number capital)) f ≡ act.capital_alone

@@ -1,3 +1,4 @@
 pub mod Acts
 pub mod Deeds
 pub mod Stages
+pub mod Numbers

@@ -3,6 +3,7 @@ use mathlib.Core.Path.{◌≡◌}
 use mathlib.Core.Bool.{Bool, true, ◌&&◌, ◌||◌, not, beq}
 use mathlib.Core.List.{List, [], ◌∷◌}
 use Prim.Native.Nat.{ℕ, ◌/◌, ◌%◌, ◌^◌, ◌<◌}
+use native.Mathlib.Omega.{arith}
 use lib.Dec.{T, eqb, ltb, eqb→eq, ltb→lt}
 use Rattle.rules.specs.Cells.{dots}
 use Rattle.rules.specs.Sorts.{Sort, Table, capital, class, class_number, ◌is◌, is_digit_cell}
@@ -13,7 +14,10 @@ use Rattle.rules.specs.Castilian.{castilian}
 use Rattle.rules.proofs.Finite.{holds, Hold, hold, below, at_below, implies, and_left, and_right, beq_same}
 use Rattle.entries.specs.States.{capitals, states}
 use Rattle.entries.specs.SignWords.{sign_of}
-use Rattle.entries.specs.Entries.{class_in, mark_in, then_in, usual_in, then_of, usual_states, bits, marks, mark_number, usuals_of, word, entry_of}
+use Rattle.entries.specs.Entries.{classes, class_in, mark_in, then_in, usual_in, then_of, usual_states, bits, marks, mark_number, usuals_of, word, entry_of}
+use Rattle.entries.specs.Numbers.{state_number}
+use Rattle.entries.specs.declared.State.{State}
+use Rattle.entries.specs.declared.State.TheVariants.{Free, Capitals, Mixed, Number, Lowered, Ordinal, Barred, Under, Guarded, Hyphened, Dashed}
 use Rattle.entries.proofs.Keys.{at_every}
 
 -- what is written as usual in a state has no mark, and is of a class that is usual there
@@ -28,6 +32,8 @@ facts s =
     ∷ eqb (then_in (word s)) (then_of (class s))
     ∷ below (usual_right (word s) (bits (usual_states (class s)))) states
     ∷ (not (class s is capital) || beq (usual_in (word s) capitals) true)
+    ∷ ltb (class_in (word s)) classes
+    ∷ ltb (then_in (word s)) states
     ∷ []
 
 -- a table whose words have their fields
@@ -40,6 +46,8 @@ pub record Worded (tb : Table) : Type 0 where
   pub usual_class : (c s : ℕ) → s < states → usual_in (entry_of tb c) s ≡ true
       → bits (usual_states (class (sort_in tb c))) / 2 ^ (s % 64) % 2 ≡ 1
   pub capital_usual : (c : ℕ) → (class (sort_in tb c) is capital) ≡ true → usual_in (entry_of tb c) capitals ≡ true
+  pub class_small : (c : ℕ) → class_in (entry_of tb c) < classes
+  pub then_small : (c : ℕ) → then_in (entry_of tb c) < states
 
 tested : (c : ℕ) → T (holds (facts (sort_in castilian c)))
 unfolding facts usual_right word then_of usuals_of usual_states bits mark_number sign_of castilian class is_digit_cell own_cells lower_cells mark_of dots
@@ -73,4 +81,20 @@ worded =
       capital_usual =
           λ c e. beq_same (usual_in (entry_of castilian c) capitals) true
           (implies (class (sort_in castilian c) is capital) (beq (usual_in (entry_of castilian c) capitals) true) (rw e tt) (at c).1.1.1.1.1.0);
+      class_small = λ c. ltb→lt (class_in (entry_of castilian c)) classes (at c).1.1.1.1.1.1.0;
+      then_small = λ c. ltb→lt (then_in (entry_of castilian c)) states (at c).1.1.1.1.1.1.1.0;
     }
+
+-- a state of the code is one of them
+pub state_small : (s : State) → state_number s < states
+state_small Free = omega arith
+state_small Capitals = omega arith
+state_small Mixed = omega arith
+state_small Number = omega arith
+state_small Lowered = omega arith
+state_small Ordinal = omega arith
+state_small Barred = omega arith
+state_small Under = omega arith
+state_small Guarded = omega arith
+state_small Hyphened = omega arith
+state_small Dashed = omega arith

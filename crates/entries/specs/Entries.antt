@@ -17,6 +17,10 @@ class_at = 65536
 abbrev pub class_places : ℕ
 class_places = 16
 
+-- how many of them there are
+abbrev pub classes : ℕ
+classes = 15
+
 abbrev pub mark_at : ℕ
 mark_at = 1048576
 

@@ -2,3 +2,4 @@ pub mod States
 pub mod SignWords
 pub mod Entries
 pub mod Chosen
+pub mod Numbers

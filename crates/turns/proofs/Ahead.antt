@@ -8,6 +8,7 @@ use mathlib.Core.Bool.{Bool, true, false, ◌&&◌, ◌||◌, not, cond, beq, tr
 use mathlib.Core.List.{List, [], ◌∷◌}
 use Prim.Native.Nat.{ℕ, zero, suc, ◌+◌, ◌≤◌, ◌<◌}
 use native.Mathlib.Numerals.{add-one}
+use native.Mathlib.Omega.{arith}
 use lib.Dec.{T}
 use lib.ListN.{length, drop, get_or-eq_default}
 use Rattle.rules.specs.Sorts.{Table, Class, unlisted, a_stop, a_bar, class, ◌is◌, is_digit, is_ordinal}
@@ -58,6 +59,9 @@ module _ (tb : Table) (none_at_zero : class (sort_in tb 0) ≡ unlisted) where
       past : length text ≤ i → g (class_at tb text i) ≡ false
       past l = ap (λ (c : ℕ). g (class (sort_in tb c))) (get_or-eq_default text 0 l) ∙ ap g none_at_zero ∙ none
 
+  class_past : (text : List ℕ) (i : ℕ) → length text ≤ i → class_at tb text i ≡ unlisted
+  class_past text i l = ap (λ (c : ℕ). class (sort_in tb c)) (get_or-eq_default text 0 l) ∙ none_at_zero
+
   -- what stands directly there
   pub digit_at : (text : List ℕ) (i : ℕ) → digit_next (future_at tb text i) ≡ is_digit (class_at tb text i)
   unfolding look
@@ -80,9 +84,7 @@ module _ (tb : Table) (none_at_zero : class (sort_in tb 0) ≡ unlisted) where
       ∙ seen_where (λ c. not (is_capital c || is_small c)) mixed_next (λ c f. false) tt (class_at tb text i) (future_at tb text (i + 1)) (rw (e, q))
 
   pub end_here : (text : List ℕ) (i : ℕ) → length text ≤ i → mixed_next (future_at tb text i) ≡ false
-  end_here text i l =
-      let e : class_at tb text i ≡ unlisted = ap (λ (c : ℕ). class (sort_in tb c)) (get_or-eq_default text 0 l) ∙ none_at_zero in
-      no_letter_here text i (ap is_capital e) (ap is_small e)
+  end_here text i l = no_letter_here text i (ap is_capital (class_past text i l)) (ap is_small (class_past text i l))
 
   capitals_at : (text : List ℕ) (i : ℕ) → caps_next (future_at tb text i) ≡ is_capital (class_at tb text i) && not (mixed_next (future_at tb text i))
   unfolding look
@@ -116,6 +118,14 @@ module _ (tb : Table) (none_at_zero : class (sort_in tb 0) ≡ unlisted) where
       ∙ seen_where (λ c. not (is_digit c)) form_next (λ c f. cond (c is a_stop) (mark_next f) (cond (c is a_bar) (digit_next f) false)) tt
       (class_at tb text i) (future_at tb text (i + 1)) (ap not e)
       ∙ rw (mark_at_lem text (i + 1), digit_at text (i + 1))
+
+  -- past the end no form goes on
+  ends_past : (text : List ℕ) (i : ℕ) → length text ≤ i → ends_form tb text i ≡ false
+  unfolding ends_form
+  ends_past text i l = rw (class_past text i l)
+
+  pub form_past : (text : List ℕ) (i : ℕ) → length text ≤ i → form_next (future_at tb text i) ≡ ends_form tb text (length text)
+  form_past text i l = form_at text i (ap is_digit (class_past text i l)) ∙ ends_past text i l ∙ sym (ends_past text (length text) (omega arith))
 
 -- PRINT TAKEN PLAINLY. To what stands before it, a code point without a sign is as a pair mark is: nothing that a rule asks for.
 look_one : (c : ℕ) (f : Future) → look (class (sort_in castilian (one_for c))) f ≡ look (class (sort_in castilian c)) f

@@ -1,17 +1,18 @@
 -- Classes that are told by the code point alone: a list and a range of code points that are, in a profile's table, all of a class.
 -- Assumes nothing.
 use mathlib.Core.Path.{◌≡◌, refl, sym, ap, ◌∙◌, subst}
-use mathlib.Core.Logic.{⊎_elim}
+use mathlib.Core.Logic.{inl, inr, ⊎_elim}
 use mathlib.Core.Bool.{Bool, true, false, ◌&&◌, ◌||◌, beq, true≢false}
 use mathlib.Core.List.{List, [], ◌∷◌}
 use Prim.Native.Nat.{ℕ, ◌+◌, ◌-◌, ◌≤◌, ◌<◌}
 use native.Mathlib.Omega.{arith}
 use lib.Dec.{T, eqb, leb, ltb, eqb→eq, leb→le, ltb→lt}
-use borrow.Author.Tests.{le-leb, lt-leb, le-ltb, lt-ltb}
+use borrow.Author.Tests.{ne_eqb, le-leb, lt-leb, le-ltb, lt-ltb}
 use Rattle.rules.specs.Sorts.{Sort, no_sign, Item, Table, Class, unlisted, class}
 use Rattle.rules.specs.Rows.{sort_in}
 use Rattle.rules.proofs.Finite.{and_false, below, at_below, every, and_left, and_right, beq_same}
-use Rattle.entries.proofs.Keys.{among, hit}
+use types.Run.{OneOf}
+use Rattle.entries.proofs.Keys.{among, told_of, hit}
 
 -- a test that all of a list pass
 among_every : (f : ℕ → Bool) (ks : List ℕ) (c : ℕ) → T (every f ks) → among ks c ≡ true → T (f c)
@@ -26,6 +27,12 @@ true_of : (b : Bool) → T b → b ≡ true
 true_of true t = refl
 true_of false t = absurd t
 
+-- what is none of several keys
+pub none_told : (ks : List ℕ) (c : ℕ) → (OneOf ks c → ⊥) → among ks c ≡ false
+none_told [] c n = refl
+none_told (k ∷ []) c n = rw (ne_eqb c k n)
+none_told (k ∷ l ∷ ks) c n = rw (ne_eqb c k (λ e. n (inl e))) (none_told (l ∷ ks) c (λ o. n (inr o)))
+
 -- the code points of a list, and of a range: n of them from m on
 abbrev pub told : List ℕ → ℕ → ℕ → ℕ → Bool
 told ks m n c = among ks c || (leb m c && ltb c (m + n))
@@ -37,6 +44,9 @@ module _ (ks : List ℕ) (m n c : ℕ) where
       go : (b : Bool) → b || (leb m c && ltb c (m + n)) ≡ true
       go true = refl
       go false = rw (le-leb m c l, lt-ltb c (m + n) h)
+
+  pub told_listed : T (every (told ks m n) ks) → OneOf ks c → told ks m n c ≡ true
+  told_listed t o = true_of (told ks m n c) (told_of (told ks m n) ks c t o)
 
   pub told_below : among ks c ≡ false → c < m → told ks m n c ≡ false
   told_below e l = rw (e, lt-leb m c l)

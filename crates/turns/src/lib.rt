@@ -1,7 +1,7 @@
 // What follows a place of a text, as far as a question of the table (crates/deeds) asks for it, and the deed once what follows has decided.
 // Read ahead is only where a run, a number or a denominator begins and after a point of a number; a state carries what was found.
-// A loop finds a place and no more, and what stands there is read anew: so the caller's loop keeps no counter for it (docs/DECISIONS.md, 30).
-// A new question is an arm of `settled`. A new capital is also an arm of `is_capital`.
+// A search finds a place and no more, and what stands there is read anew: so the caller's loop keeps no counter for it (docs/DECISIONS.md, 30).
+// A new question is an arm of `answered`. A new capital is also a pattern of `is_capital`.
 #![tactic(auto)]
 
 ghost use Rattle.std.specs.Prelude.{◌≡◌, get_or};
@@ -9,13 +9,11 @@ ghost use Rattle.rules.specs.Castilian.{castilian};
 ghost use Rattle.rules.specs.Sorts.{class, is_digit, is_ordinal};
 ghost use Rattle.rules.specs.Rows.{sort_in};
 ghost use Rattle.rules.proofs.Sides.{form_next, digit_next};
+ghost use Rattle.deeds.specs.Numbers.{question_number, deed_number, answer_number};
 ghost use Rattle.deeds.specs.Stages.{Supposed};
 ghost use Rattle.turns.specs.Ahead.{is_capital, future_at, ends_form};
 
-use deeds::{
-    BEGINS_NUMBER, BEGINS_RUN, CAPITAL_ALONE, DIGIT_UNDER, FIRST_OF_CAPITALS, FIRST_OF_FORM,
-    FIRST_OF_NUMBER, NUMBER_POINT, ONE_UNDER, POINT_AFTER, POINT_INSIDE, SHARES_CELLS,
-};
+use deeds::{Act, Deed, Fault, Question};
 
 // The code points that reading ahead knows.
 const DIGIT_0: u32 = 0x30; // 0
@@ -37,46 +35,30 @@ const CAPITAL_Z: u32 = 0x5a; // Z
 fn is_digit(point: u32) -> bool
     ensures { result ≡ is_digit (class (sort_in castilian point)) }
 {
-    match point {
-        DIGIT_0..=DIGIT_9 => true,
-        _ => false,
-    }
+    matches!(point, DIGIT_0..=DIGIT_9)
 }
 
 fn is_ordinal(point: u32) -> bool
     ensures { result ≡ is_ordinal (class (sort_in castilian point)) }
 {
-    match point {
-        MASCULINE => true,
-        FEMININE => true,
-        _ => false,
-    }
+    matches!(point, MASCULINE | FEMININE)
 }
 
-// A to Z comes first: of most capitals nothing more is asked.
+// A to Z, and Á É Í Ñ Ó Ú Ü.
 fn is_capital(point: u32) -> bool
     ensures { result ≡ is_capital (class (sort_in castilian point)) }
 {
-    if CAPITAL_A <= point && point <= CAPITAL_Z {
-        return true;
-    }
-    match point {
-        0xc1 => true, // Á
-        0xc9 => true, // É
-        0xcd => true, // Í
-        0xd1 => true, // Ñ
-        0xd3 => true, // Ó
-        0xda => true, // Ú
-        0xdc => true, // Ü
-        _ => false,
-    }
+    matches!(
+        point,
+        CAPITAL_A..=CAPITAL_Z | 0xc1 | 0xc9 | 0xcd | 0xd1 | 0xd3 | 0xda | 0xdc
+    )
 }
 
-// The code point at a place, and 0, which has no sign, past the end: no caller tests the length.
+// The code point at a place, and 0, which has no sign, past the end: so no caller tests the length, as in the rules' words (specs/Ahead.antt, `class_at`).
 fn point_at(text: &[u32], place: usize) -> u32
     ensures { result ≡ get_or text.now place 0 }
 {
-    if place < text.len() { text[place] } else { 0 }
+    text.get(place).copied().unwrap_or(0)
 }
 
 // Does a digit stand at this place?
@@ -101,11 +83,12 @@ fn ends_form(text: &[u32], place: usize) -> bool
 fn behind_digits(text: &[u32], from: usize) -> usize
     ensures { form_next (future_at castilian text.now from) ≡ ends_form castilian text.now result }
 {
-    let mut place = from;
-    while is_digit(point_at(text, place)) {
-        place += 1;
+    for place in from..text.len() {
+        if !is_digit(text[place]) {
+            return place;
+        }
     }
-    place
+    text.len()
 }
 
 // Does a form go on behind the digits, if any, from this place on?
@@ -116,40 +99,30 @@ fn form_follows(text: &[u32], from: usize) -> bool
     ends_form(text, end)
 }
 
-// The deed, once what follows has decided: `next` is the place after the one at hand. "If it has two letters or more and all are capitals, 46-46 stands once before
-// it": of a run that goes on with a capital that is supposed, and nothing more of it is read; `passes::draw` finds out.
-pub fn settled(text: &[u32], next: usize, deed: usize) -> usize
-    ensures { Supposed deed (future_at castilian text.now next) result }
+// What a question comes to. "If it has two letters or more and all are capitals, 46-46 stands once before it": of a run that goes on with a capital that is
+// supposed, and nothing more of it is read; `passes::draw` finds out.
+fn answered(text: &[u32], next: usize, question: Question) -> Result<Act, Fault>
+    ensures { Supposed (question_number question) (future_at castilian text.now next) (answer_number result) }
+{
+    match question {
+        Question::BeginsRun if is_capital(point_at(text, next)) => Ok(Act::FirstOfCapitals),
+        Question::BeginsRun => Ok(Act::CapitalAlone),
+        Question::BeginsNumber if form_follows(text, next) => Ok(Act::FirstOfForm),
+        Question::BeginsNumber => Ok(Act::FirstOfNumber),
+        Question::NumberPoint if digit_follows(text, next) => Ok(Act::PointInside),
+        Question::NumberPoint => Ok(Act::PointAfter),
+        Question::OneUnder if digit_follows(text, next) => Ok(Act::DigitUnder),
+        Question::OneUnder => Err(Fault::SharesCells),
+    }
+}
+
+// The deed, once what follows has decided: `next` is the place after the one at hand.
+pub fn settled(text: &[u32], next: usize, deed: Deed) -> Result<Act, Fault>
+    ensures { Supposed (deed_number deed) (future_at castilian text.now next) (answer_number result) }
 {
     match deed {
-        BEGINS_RUN => {
-            if is_capital(point_at(text, next)) {
-                FIRST_OF_CAPITALS
-            } else {
-                CAPITAL_ALONE
-            }
-        }
-        BEGINS_NUMBER => {
-            if form_follows(text, next) {
-                FIRST_OF_FORM
-            } else {
-                FIRST_OF_NUMBER
-            }
-        }
-        NUMBER_POINT => {
-            if digit_follows(text, next) {
-                POINT_INSIDE
-            } else {
-                POINT_AFTER
-            }
-        }
-        ONE_UNDER => {
-            if digit_follows(text, next) {
-                DIGIT_UNDER
-            } else {
-                SHARES_CELLS
-            }
-        }
-        _ => deed,
+        Deed::Write(act) => Ok(act),
+        Deed::Ask(question) => answered(text, next, question),
+        Deed::Refuse(fault) => Err(fault),
     }
 }

@@ -1,4 +1,4 @@
--- `is_digit`: the code points of the list and of the range are all that the sign list has of its digits. Assumes nothing.
+-- `is_digit`: the code points of the range are all that the sign list has of its digits. Assumes nothing.
 use mathlib.Core.Path.{◌≡◌, refl, sym, ◌∙◌}
 use mathlib.Core.List.{List, []}
 use Prim.Native.Nat.{ℕ}
@@ -17,12 +17,12 @@ unfolding castilian sort_in class is_digit_cell dots points
 is-it = known castilian is_digit points 48 10 tt tt tt refl
 
 pub returns-in-48-to-57 : goal.returns-in-48-to-57
-returns-in-48-to-57 c = sym (is-it c.before.args.point ∙ told_in points 48 10 c.before.args.point c.in-48-to-57.if-point-lt48-own.false c.in-48-to-57.if-point-lt58-own.true)
+returns-in-48-to-57 c = sym (is-it c.args.point ∙ told_in points 48 10 c.args.point c.in-48-to-57.if-matches-own.false c.in-48-to-57.if-matches-2-own.true)
 
 pub returns-in_default : goal.returns-in_default
 unfolding points
-returns-in_default c = sym (is-it c.before.args.point ∙ told_below points 48 10 c.before.args.point refl c.in_default.if-point-lt48-own.true)
+returns-in_default c = sym (is-it c.args.point ∙ told_below points 48 10 c.args.point refl c.in_default.if-matches-own.true)
 
 pub returns-in_default-2 : goal.returns-in_default-2
 unfolding points
-returns-in_default-2 c = sym (is-it c.before.args.point ∙ told_above points 48 10 c.before.args.point refl c.in_default.if-point-lt58-own.false)
+returns-in_default-2 c = sym (is-it c.args.point ∙ told_above points 48 10 c.args.point refl c.in_default.if-matches-2-own.false)

@@ -1,17 +1,16 @@
--- `is_ordinal`: the code points of the list and of the range are all that the sign list has of º and ª. Assumes nothing.
-use mathlib.Core.Path.{◌≡◌, refl, sym, ap, ◌∙◌}
+-- `is_ordinal`: the two code points are all that the sign list has of º and ª. Assumes nothing.
+use mathlib.Core.Path.{◌≡◌, refl, sym, ◌∙◌}
 use mathlib.Core.List.{List, [], ◌∷◌}
 use Prim.Native.Nat.{ℕ, zero-le}
 use Rattle.rules.specs.Castilian.{castilian}
 use Rattle.rules.specs.Cells.{dots}
 use Rattle.rules.specs.Sorts.{class, is_digit_cell, is_ordinal}
 use Rattle.rules.specs.Rows.{sort_in}
-use Rattle.entries.proofs.Keys.{rest_none}
-use Rattle.turns.proofs.Points.{told, told_above, known}
+use Rattle.turns.proofs.Points.{none_told, told, told_listed, told_above, known}
 use Rattle.turns.proofs.is_ordinal.Goals as goal
 
 points : List ℕ
-points = 0xba ∷ 0xaa ∷ []
+points = 0xaa ∷ 0xba ∷ []
 
 is-it : (c : ℕ) → is_ordinal (class (sort_in castilian c)) ≡ told points 0 0 c
 unfolding castilian sort_in class is_digit_cell dots points
@@ -19,13 +18,8 @@ is-it = known castilian is_ordinal points 0 0 tt tt tt refl
 
 pub returns-in-186 : goal.returns-in-186
 unfolding points
-returns-in-186 c = sym (is-it c.before.args.point ∙ ap (told points 0 0) c.in-186.is)
-
-pub returns-in-170 : goal.returns-in-170
-unfolding points
-returns-in-170 c = sym (is-it c.before.args.point ∙ ap (told points 0 0) c.in-170.is)
+returns-in-186 c = sym (is-it c.args.point ∙ told_listed points 0 0 c.args.point tt c.in-186.is)
 
 pub returns-in_default : goal.returns-in_default
 unfolding points
-returns-in_default c =
-    sym (is-it c.before.args.point ∙ told_above points 0 0 c.before.args.point (rest_none Unit points c.before.args.point c.in_default.in_default-own.rest).1 zero-le)
+returns-in_default c = sym (is-it c.args.point ∙ told_above points 0 0 c.args.point (none_told points c.args.point c.in_default.in_default-own.rest.1) zero-le)
