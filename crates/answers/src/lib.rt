@@ -1,5 +1,5 @@
 // What the line programs `transcribe` and `read` print for a line (paper 01, "The line program"): from the line's bytes to the bytes of the printed line, its end among them, in
-// a slice that the caller lends. (What `steps` prints: `proofing`.)
+// a slice that the caller lends. (What `steps` prints: `proofing`.) The rooms are lent one by one: a struct of them all would ask for a text where print is transcribed, which has no use for one.
 #![tactic(auto)]
 
 ghost use Rattle.std.specs.Prelude.{◌≤◌, length};

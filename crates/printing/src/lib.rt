@@ -87,7 +87,7 @@ impl<'a> Page<'a> {
         ensures { PagePrints self.old (decimal_of n) self.new }
     {
         let mut digits = [0; 20];
-        let count = io::decimal(n as u64, &mut digits);
+        let count = io::decimal(n as u64, &mut digits); // there is no `From` of a usize
         self.bytes(&digits[..count]);
     }
 

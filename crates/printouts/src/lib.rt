@@ -15,6 +15,7 @@ pub fn reply<T: Character>(out: &mut [u8], shown: Shown, lent: &[T]) -> usize
     requires { shown.number ≡ 0 → shown.second ≤ length lent.now }
     ensures { Prints out.old 0 (shown_reply T.shown shown lent.now) result out.new }
 {
+    // Whether it is a refusal is told by a number, since C is given it (`desk::Shown`).
     if shown.number != DONE {
         return refusal_line(out, shown.number, shown.second); // "or `no`, the refusal number and the second number"
     }

@@ -1,4 +1,4 @@
-// What the line program `steps` prints for a line: the proofing screen on paper. Its signs are printed in `sign_lines`.
+// What the line program `steps` prints for a line: the proofing screen on paper. Its signs are printed in `sign_lines`. The rooms are lent one by one, as in `answers`.
 #![tactic(auto)]
 
 ghost use Rattle.std.specs.Prelude.{◌≤◌, length};
@@ -20,6 +20,7 @@ pub fn steps_line(line: &[u8], points: &mut [u32], row: &mut [u8], out: &mut [u8
 {
     let cells = row_of(line, points, row);
     let first = desk::desk_step(&row[..cells], 0);
+    // Whether the row is refused is told by a number, since C is given it (`desk::Sign`).
     if first.number != DONE {
         return refusal_line(out, first.number, first.second);
     }

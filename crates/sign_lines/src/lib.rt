@@ -20,6 +20,7 @@ fn put_sign(page: &mut Page, place: usize, sign: Sign)
     page.number(place);
     page.byte(COLON);
     page.point(sign.first);
+    // How many code points there are is a number, since C is given it (`desk::Sign`).
     if sign.second >= 2 {
         page.point(sign.then);
     }
