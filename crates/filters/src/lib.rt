@@ -6,20 +6,27 @@ ghost use Rattle.std.specs.Prelude.{IfErr};
 ghost use Rattle.filters.specs.Failures.{IsTold};
 
 use limits::{LONGEST_ROW_LINE, MOST_BYTES, Program, ROOM_FOR_TEXT};
+use std::error::Error;
 use std::fmt;
 use std::io::{self, ErrorKind, Read, Stdin, Stdout, Write};
-use thiserror::Error;
 
 // So many bytes are asked for at once.
 const CHUNK: usize = 65536;
 
 // What ends a program before its input has ended, and is told: a read that failed, or a write. An output that nobody reads any more is none (`IsTold`).
-#[derive(Drop, Error)]
+#[derive(Drop)]
 pub enum Failure {
-    #[error("standard input: {0}")]
     Input(io::Error),
-    #[error("standard output: {0}")]
     Output(io::Error),
+}
+
+impl fmt::Display for Failure {
+    fn fmt<W: fmt::Write>(&self, f: &mut fmt::Formatter<W>) -> fmt::Result {
+        match self {
+            Failure::Input(e) => write!(f, "standard input: {e}"),
+            Failure::Output(e) => write!(f, "standard output: {e}"),
+        }
+    }
 }
 
 // `main` tells an error in this form.
@@ -28,6 +35,8 @@ impl fmt::Debug for Failure {
         write!(f, "{self}")
     }
 }
+
+impl Error for Failure {}
 
 // A line program at work: the line that has not ended, of which `held` tells what is held (`lines`), and the rooms that an answer is worked out in.
 #[derive(Drop)]
