@@ -1,12 +1,12 @@
 // What the line programs `transcribe` and `read` print for a line (paper 01, "The line program"): from the line's bytes to the bytes of the printed line, its end among them, in
-// a slice that the caller lends. (What `steps` prints: `proofing`.)
+// a slice that the caller lends. (What `steps` prints: `proofing`.) The rooms are lent one by one: a struct of them all would ask for a text where print is transcribed, which has no use for one.
 #![tactic(auto)]
 
 ghost use Rattle.std.specs.Prelude.{◌≤◌, length};
 ghost use Rattle.answers.specs.Lines.{TranscribesLine, ReadsLine};
 
 use patterns::row_of;
-use printouts::{print_row, print_text};
+use printouts::reply;
 
 // What `transcribe` prints for a line: "`ok`, a blank and one character U+2800 plus the cell for each cell; or `no`, .."
 // Two wrong programs that the promise shuts out: one that prints the whole of the lent row, and one that prints a refusal as a row.
@@ -17,7 +17,7 @@ pub fn transcribe_line(line: &[u8], points: &mut [u32], row: &mut [u8], out: &mu
 {
     let count = utf8::decode(line, points);
     let shown = desk::desk_transcribe(&points[..count], row);
-    print_row(out, shown.number, shown.second, row)
+    reply(out, shown, row)
 }
 
 // What `read` prints for a line: "`ok`, a blank and the text in UTF-8, or `no N M`".
@@ -35,6 +35,6 @@ pub fn read_line(
     ensures upper_bound { result ≤ length out.new }
 {
     let cells = row_of(line, points, row);
-    let told = desk::desk_read(&row[..cells], text);
-    print_text(out, told.number, told.second, text)
+    let shown = desk::desk_read(&row[..cells], text);
+    reply(out, shown, text)
 }

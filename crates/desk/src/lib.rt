@@ -29,8 +29,8 @@ pub struct Sign {
     pub next: usize,
 }
 
-// The numbers of paper 01's table, "Numbers the desk shows".
-const DONE: usize = 0;
+// The numbers of paper 01's table, "Numbers the desk shows". DONE is that of no refusal.
+pub const DONE: usize = 0;
 
 const TOO_LONG: usize = 1;
 

@@ -1,5 +1,5 @@
 -- Bytes printed at a place, one behind another. In order: nothing; one part behind another (`prints_on`);
--- the same from the front of what is lent; two allowed results; one byte; between two parts of a loop (`Mid`): whatever prints what is still to come from here
+-- the same from the front of what is lent; two allowed results; the same of pages; between two parts of a loop (`Mid`): whatever prints what is still to come from here
 -- prints the whole. Assumes nothing.
 use mathlib.Core.List.{List, [], ◌∷◌, ◌++◌}
 use mathlib.Core.Logic.{⊎_elim}
@@ -8,13 +8,14 @@ use Prim.Native.Nat.{ℕ, suc, ◌+◌, ◌≤◌, ◌<◌}
 use native.Mathlib.Omega.{arith}
 use native.Mathlib.Nat.{zero-add}
 use lib.ListN.{length, get_or, take, drop, set, length-append, drop_of_length-le}
-use lib.Seq.{sets, length-sets, sets-eq, set_out, drop-cons, take_all}
+use lib.Seq.{sets, length-sets, sets-eq, drop-cons}
 use Rattle.rows.specs.Laid.{laid}
 use Rattle.rows.proofs.Laid.{front}
 use Rattle.rows.proofs.Stored.{stored_past}
 use Rattle.rules.proofs.Finite.{le_or_lt}
-use Rattle.encoding.specs.Encoding.{encoded_of, Encoded}
-use Rattle.printing.specs.Printed.{bytes_of_text, characters_of, Prints}
+use Rattle.printing.specs.Printed.{Prints}
+use Rattle.printing.specs.declared.Page.{Page}
+use Rattle.printing.specs.Pages.{PagePrints}
 
 -- NOTHING
 pub prints_none : (l : List ℕ) (at : ℕ) → Prints l at [] at l
@@ -70,65 +71,41 @@ prints_front l x r new p h =
 pub one_printed : (l : List ℕ) (at : ℕ) (x : List ℕ) (r s : ℕ) (new old : List ℕ) → Prints l at x r new → Prints l at x s old → (r ≡ s) × (new ≡ old)
 one_printed l at x r s new old p q = (p.place ∙ sym q.place, p.stored ∙ sym q.stored)
 
--- ONE BYTE: stored where there is room, and else left out
-pub prints_byte : (l : List ℕ) (at byte : ℕ) → at < length l → Prints l at (byte ∷ []) (at + 1) (set l at byte)
-prints_byte l at byte h = record { place = omega (arith, h); stored = refl }
+-- PAGES
+page_none : (page : Page) → PagePrints page [] page
+page_none page = record { same = refl; prints = prints_none page.out.now page.at }
 
-pub prints_nowhere : (l : List ℕ) (at byte : ℕ) → length l ≤ at → Prints l at (byte ∷ []) at l
-prints_nowhere l at byte h = record { place = omega (arith, h); stored = sym (set_out l at byte h) }
+pub page_on : (old : Page) (x : List ℕ) (mid : Page) (y : List ℕ) (new : Page) → PagePrints old x mid → PagePrints mid y new → PagePrints old (x ++ y) new
+page_on old x mid y new p q = record { same = q.same ∙ p.same; prints = prints_on old.out.now old.at x mid.at mid.out.now y new.at new.out.now p.prints q.prints }
+
+pub page_as : (old : Page) (x y : List ℕ) (new : Page) → x ≡ y → PagePrints old x new → PagePrints old y new
+page_as old x y new e p = subst (λ (t : List ℕ). PagePrints old t new) e p
+
+-- a page that begins at the front of what is lent, and what is lent as the page leaves it
+pub page_line : (out : List ℕ) (first : Page) (x : List ℕ) (last : Page) (new : List ℕ)
+    → first.out.now ≡ out → first.at ≡ 0 → new ≡ last.out.now → PagePrints first x last → Prints out 0 x last.at new
+page_line out first x last new e f g p = rw g (subst (λ (l : List ℕ). Prints l 0 x last.at last.out.now) e (subst (λ (k : ℕ). Prints first.out.now k x last.at last.out.now) f p.prints))
 
 -- BETWEEN TWO PARTS of a whole that a loop prints: what is still to come, printed from here on, makes the whole
-pub record Mid (lent : List ℕ) (at : ℕ) (all rest : List ℕ) (place : ℕ) (out : List ℕ) : Type 0 where
-  pub same : length out ≡ length lent
-  pub whole : (r : ℕ) (new : List ℕ) → Prints out place rest r new → Prints lent at all r new
+abbrev pub Mid : Page → List ℕ → List ℕ → Page → Type 0
+Mid old all rest now = (new : Page) → PagePrints now rest new → PagePrints old all new
 
-module _ (lent : List ℕ) (at : ℕ) (all : List ℕ) where
-  pub mid_start : Mid lent at all all at lent
-  mid_start = record { same = refl; whole = λ r new p. p }
+module _ (old : Page) (all : List ℕ) where
+  pub mid_start : Mid old all all old
+  mid_start new p = p
 
-  module _ (rest : List ℕ) (place : ℕ) (out : List ℕ) (m : Mid lent at all rest place out) where
-    pub mid_on : (x rest' : List ℕ) (place' : ℕ) (out' : List ℕ) → rest ≡ x ++ rest' → Prints out place x place' out' → Mid lent at all rest' place' out'
-    mid_on x rest' place' out' e p = record {
-      same = prints_same out place x place' out' p ∙ m.same;
-      whole = λ r new q. m.whole r new (prints_as out place (x ++ rest') rest r new (sym e) (prints_on out place x place' out' rest' r new p q));
-    }
+  module _ (rest : List ℕ) (now : Page) (m : Mid old all rest now) where
+    pub mid_on : (x rest' : List ℕ) (next : Page) → rest ≡ x ++ rest' → PagePrints now x next → Mid old all rest' next
+    mid_on x rest' next e p new q = m new (page_as now (x ++ rest') rest new (sym e) (page_on now x next rest' new p q))
 
-    pub mid_done : rest ≡ [] → Prints lent at all place out
-    mid_done e = m.whole place out (prints_as out place [] rest place out (sym e) (prints_none out place))
+    pub mid_done : rest ≡ [] → PagePrints old all now
+    mid_done e = m now (page_as now [] rest now (sym e) (page_none now))
 
--- what is still to come at a place of the bytes, the cells, the text
-module _ (xs : List ℕ) (i : ℕ) where
-  rest_is : i < length xs → drop i xs ≡ get_or xs i 0 ∷ drop (i + 1) xs
-  rest_is h =
-      let e : i + 1 ≡ suc i = omega arith in
-      rw e (drop-cons xs i 0 h)
+-- what is still to come at a place: there one, and what is behind it; or nothing
+pub rest_on : {A : Type 0} (xs : List A) (i : ℕ) (d : A) → i < length xs → drop i xs ≡ get_or xs i d ∷ drop (i + 1) xs
+rest_on xs i d h =
+    let e : i + 1 ≡ suc i = omega arith in
+    rw e (drop-cons xs i d h)
 
-  rest_none : length xs ≤ i → drop i xs ≡ []
-  rest_none h = drop_of_length-le xs {i = i} h
-
-  pub bytes_on : i < length xs → drop i xs ≡ (get_or xs i 0 ∷ []) ++ drop (i + 1) xs
-  bytes_on h = rest_is h
-
-  pub bytes_none : length xs ≤ i → drop i xs ≡ []
-  bytes_none = rest_none
-
-  pub cells_on : i < length xs → characters_of (drop i xs) ≡ encoded_of (0x2800 + get_or xs i 0) ++ characters_of (drop (i + 1) xs)
-  cells_on h = ap characters_of (rest_is h)
-
-  pub cells_none : length xs ≤ i → characters_of (drop i xs) ≡ []
-  cells_none h = ap characters_of (rest_none h)
-
-  pub text_on : i < length xs → bytes_of_text (drop i xs) ≡ encoded_of (get_or xs i 0) ++ bytes_of_text (drop (i + 1) xs)
-  text_on h = ap bytes_of_text (rest_is h)
-
-  pub text_none : length xs ≤ i → bytes_of_text (drop i xs) ≡ []
-  text_none h = ap bytes_of_text (rest_none h)
-
--- A CODE POINT: four bytes that are lent have room for all of its bytes
-pub point_bytes : (c : ℕ) (lent : List ℕ) (r : ℕ) (new : List ℕ) → 4 ≤ length lent → Encoded c lent r new → r ≤ 4 → take r new ≡ encoded_of c
-point_bytes c lent r new room e few =
-    let all : take (length lent) (encoded_of c) ≡ encoded_of c = take_all (length lent) (encoded_of c) (omega (arith, e.count, few, room)) in
-    front (encoded_of c) lent new r e.count (e.bytes ∙ ap (λ (x : List ℕ). laid x lent) all)
-
-pub point_count : (c : ℕ) (lent : List ℕ) (r : ℕ) (new : List ℕ) → 4 ≤ length lent → Encoded c lent r new → r ≤ 4 → r ≡ length (take r new)
-point_count c lent r new room e few = e.count ∙ sym (ap length (point_bytes c lent r new room e few))
+pub rest_none : {A : Type 0} (xs : List A) (i : ℕ) → length xs ≤ i → drop i xs ≡ []
+rest_none xs i h = drop_of_length-le xs {i = i} h

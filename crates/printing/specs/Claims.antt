@@ -1,8 +1,9 @@
 -- What is proved of printing, as types; each is proved under the same name in snake case in proofs/Claims.antt. In order: one outcome; what is printed from the front of
--- what was lent; part behind part. Assumes nothing.
+-- what was lent; part behind part; the characters of a row and of a text. Assumes nothing.
 use Rattle.std.specs.Prelude.{List, ◌++◌, ◌≡◌, ℕ, ◌≤◌, length, take}
 use Rattle.rows.specs.Laid.{laid}
-use Rattle.printing.specs.Printed.{Prints}
+use Rattle.rules.specs.Cells.{Text, Row}
+use Rattle.printing.specs.Printed.{bytes_of_text, characters_of, pattern_of, character_bytes, Prints}
 
 -- "any two results allowed by one statement are proved equal"
 abbrev pub OnePrinted : Type 0
@@ -18,3 +19,10 @@ PrintedInFront =
 abbrev pub PrintedOn : Type 0
 PrintedOn =
     (l : List ℕ) (at : ℕ) (x : List ℕ) (m : ℕ) (mid y : List ℕ) (r : ℕ) (new : List ℕ) → Prints l at x m mid → Prints mid m y r new → Prints l at (x ++ y) r new
+
+-- "one character U+2800 plus the cell for each cell"; and a text in UTF-8
+abbrev pub CellsShown : Type 0
+CellsShown = (r : Row) → character_bytes pattern_of r ≡ characters_of r
+
+abbrev pub TextShown : Type 0
+TextShown = (t : Text) → character_bytes (λ point. point) t ≡ bytes_of_text t

@@ -3,7 +3,7 @@ use mathlib.Core.List.{List}
 use mathlib.Core.Path.{◌≡◌, sym, ap, subst}
 use Prim.Native.Nat.{ℕ, ◌≤◌}
 use native.Mathlib.Omega.{arith}
-use lib.ListN.{length}
+use lib.ListN.{length, take}
 use Rattle.rules.specs.Cells.{Row}
 use Rattle.rules.specs.Castilian.{castilian}
 use Rattle.rules.specs.Refusals.{Refusal}
@@ -12,12 +12,13 @@ use Rattle.rules.specs.Answers.{Answer, gives, refuses, PrintAnswer, RowAnswer}
 use Rattle.rules.proofs.Demands.{every_print_answered, every_row_answered, one_print_answer, one_row_answer, reads_back}
 use Rattle.utf8.specs.Decoding.{decoded}
 use Rattle.printing.specs.Printed.{bytes_of_text, characters_of}
+use Rattle.printing.proofs.Claims.{cells_shown, text_shown}
 use Rattle.printing.proofs.Lengths.{text_few}
 use Rattle.replies.specs.Replies.{ok_line, no_line}
 use Rattle.replies.proofs.Lengths.{no_line_short, ok_line_length}
 use Rattle.patterns.specs.Patterns.{row_of}
-use Rattle.printouts.specs.Lines.{TranscribePrints, ReadPrints, prints_cells, prints_text, prints_refusal}
-use Rattle.printouts.specs.Claims.{EveryLineTranscribed, EveryRowLineRead, OneTranscribedLine, OneReadLine, longest_printed, longest_read, RoomEnough, LineReadsBack, LineThereAndBack}
+use Rattle.printouts.specs.Lines.{TranscribePrints, ReadPrints, prints_cells, prints_text, prints_refusal, reply_of}
+use Rattle.printouts.specs.Claims.{EveryLineTranscribed, EveryRowLineRead, OneTranscribedLine, OneReadLine, longest_printed, longest_read, RoomEnough, LineReadsBack, LineThereAndBack, RowReplied, TextReplied}
 use Rattle.printouts.proofs.Lines.{room_for_row, room_for_text_lem}
 use Rattle.printouts.proofs.Lengths.{characters_three, characters_back, given_bytes}
 
@@ -83,3 +84,10 @@ line_there_and_back room line r g enough h =
     prints_text (normal_of (decoded line))
     (subst (λ (q : Row). RowAnswer castilian q enough (gives (normal_of (decoded line)))) (sym (line_reads_back room line r g))
     (reads_back (decoded line) room r g enough h))
+
+-- the reply
+pub row_replied : RowReplied
+row_replied s row = ap (reply_of s.number s.second) (cells_shown (take s.second row))
+
+pub text_replied : TextReplied
+text_replied s text = ap (reply_of s.number s.second) (text_shown (take s.second text))

@@ -1,15 +1,16 @@
 -- What is proved of the printed lines, as types; each is proved under the same name in snake case in proofs/Claims.antt. In order: every line has a printed line, and one; how long a printed line is; the
--- way back. Assumes nothing.
+-- way back; the reply to the desk's numbers. Assumes nothing.
 use Rattle.std.specs.Prelude.{List, ◌≡◌, ℕ, ◌+◌, ◌*◌, ◌≤◌, length}
 use Rattle.rules.specs.Cells.{Row}
 use Rattle.rules.specs.Castilian.{castilian}
 use Rattle.rules.specs.Normal.{normal_of}
 use Rattle.rules.specs.Answers.{gives, PrintAnswer}
 use Rattle.utf8.specs.Decoding.{decoded}
-use Rattle.printing.specs.Printed.{bytes_of_text, characters_of}
+use Rattle.desk.specs.declared.Shown.{Shown}
+use Rattle.printing.specs.Printed.{bytes_of_text, characters_of, pattern_of}
 use Rattle.replies.specs.Replies.{ok_line}
 use Rattle.patterns.specs.Patterns.{row_of}
-use Rattle.printouts.specs.Lines.{TranscribePrints, ReadPrints}
+use Rattle.printouts.specs.Lines.{TranscribePrints, ReadPrints, row_reply, text_reply, shown_reply}
 
 -- Demand 1: "Every sequence of numbers offered as print and every sequence of bytes offered as cells gets an answer": every line has a printed line,
 abbrev pub EveryLineTranscribed : Type 0
@@ -46,3 +47,10 @@ abbrev pub LineThereAndBack : Type 0
 LineThereAndBack =
     (room : ℕ) (line : List ℕ) (r : Row) → PrintAnswer castilian (decoded line) room (gives r) → (enough : ℕ) → length (normal_of (decoded line)) ≤ enough
     → ReadPrints enough (characters_of r) (ok_line (bytes_of_text (normal_of (decoded line))))
+
+-- THE REPLY: of a row's cells it is that of a row, of code points that of a text
+abbrev pub RowReplied : Type 0
+RowReplied = (s : Shown) (row : List ℕ) → shown_reply pattern_of s row ≡ row_reply s.number s.second row
+
+abbrev pub TextReplied : Type 0
+TextReplied = (s : Shown) (text : List ℕ) → shown_reply (λ point. point) s text ≡ text_reply s.number s.second text

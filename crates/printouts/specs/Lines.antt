@@ -7,7 +7,8 @@ use Rattle.rules.specs.Castilian.{castilian}
 use Rattle.rules.specs.Refusals.{Refusal}
 use Rattle.rules.specs.Answers.{gives, refuses, PrintAnswer, RowAnswer}
 use Rattle.utf8.specs.Decoding.{decoded}
-use Rattle.printing.specs.Printed.{bytes_of_text, characters_of}
+use Rattle.desk.specs.declared.Shown.{Shown}
+use Rattle.printing.specs.Printed.{bytes_of_text, characters_of, character_bytes}
 use Rattle.replies.specs.Replies.{ok_line, refusal_line, no_line}
 use Rattle.patterns.specs.Patterns.{row_of}
 
@@ -31,3 +32,7 @@ row_reply number second row = reply_of number second (characters_of (take second
 
 abbrev pub text_reply : ℕ → ℕ → List ℕ → List ℕ
 text_reply number second text = reply_of number second (bytes_of_text (take second text))
+
+-- both at once, of what is shown as characters (claims `row_replied`, `text_replied`)
+abbrev pub shown_reply : {A : Type 0} → (A → ℕ) → Shown → List A → List ℕ
+shown_reply character shown lent = reply_of shown.number shown.second (character_bytes character (take shown.second lent))

@@ -1,5 +1,5 @@
 // The three line programs: what each prints for a line. How long a line each takes and what it lends stands in `limits`, what an input is cut into in `lines`; reading and
-// writing stand in `filters`.
+// writing stand in `filters`. The rooms are lent one by one, as they are handed on: a struct of them would be made for one call and taken apart in it.
 #![tactic(auto)]
 
 ghost use Rattle.std.specs.Prelude.{◌≡◌, ◌≤◌, length};

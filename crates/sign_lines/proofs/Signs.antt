@@ -5,8 +5,10 @@ use Prim.Native.Nat.{ℕ, ◌≤◌, ◌<◌}
 use borrow.Author.Tests.{lt-ltb, le-ltb}
 use Rattle.desk.specs.declared.Sign as desk
 use Rattle.encoding.specs.Encoding.{encoded_of}
-use Rattle.printing.specs.Printed.{decimal_of, Prints}
-use Rattle.printing.proofs.Printed.{prints_as, prints_on}
+use Rattle.printing.specs.Printed.{decimal_of}
+use Rattle.printing.specs.declared.Page.{Page}
+use Rattle.printing.specs.Pages.{PagePrints}
+use Rattle.printing.proofs.Printed.{page_as, page_on}
 use Rattle.replies.specs.Replies.{blank}
 use Rattle.sign_lines.specs.Signs.{colon, sign_line}
 use Rattle.sign_lines.specs.Walk.{shown_text}
@@ -21,20 +23,19 @@ two_points x e f =
     ∙ append_assoc x (colon ∷ []) (e ++ f)
     ∙ ap (λ (y : List ℕ). x ++ colon ∷ (e ++ y)) (sym (append-nil f))
 
-module _ (place : ℕ) (s : desk.Sign) (l : List ℕ) (at a : ℕ) (la : List ℕ) (b : ℕ) (lb : List ℕ) (d : ℕ) (ld : List ℕ) (e : ℕ) (le : List ℕ)
-    (first : Prints l at (blank ∷ []) a la) (second : Prints la a (decimal_of place) b lb) (third : Prints lb b (colon ∷ []) d ld)
-    (fourth : Prints ld d (encoded_of s.first) e le) where
-  begun : Prints l at ((blank ∷ decimal_of place ++ colon ∷ []) ++ encoded_of s.first) e le
+module _ (place : ℕ) (s : desk.Sign) (p a b c q : Page)
+    (first : PagePrints p (blank ∷ []) a) (second : PagePrints a (decimal_of place) b) (third : PagePrints b (colon ∷ []) c)
+    (fourth : PagePrints c (encoded_of s.first) q) where
+  begun : PagePrints p ((blank ∷ decimal_of place ++ colon ∷ []) ++ encoded_of s.first) q
   begun =
-      prints_on l at (blank ∷ decimal_of place ++ colon ∷ []) d ld (encoded_of s.first) e le
-      (prints_on l at (blank ∷ decimal_of place) b lb (colon ∷ []) d ld (prints_on l at (blank ∷ []) a la (decimal_of place) b lb first second) third)
-      fourth
+      page_on p (blank ∷ decimal_of place ++ colon ∷ []) c (encoded_of s.first) q
+      (page_on p (blank ∷ decimal_of place) b (colon ∷ []) c (page_on p (blank ∷ []) a (decimal_of place) b first second) third) fourth
 
-  pub sign_one : s.second < 2 → Prints l at (sign_line place (shown_text s)) e le
-  sign_one h = rw (lt-ltb s.second 2 h) (prints_as l at _ _ e le (one_point (blank ∷ decimal_of place) (encoded_of s.first)) begun)
+  pub sign_one : s.second < 2 → PagePrints p (sign_line place (shown_text s)) q
+  sign_one h = rw (lt-ltb s.second 2 h) (page_as p _ _ q (one_point (blank ∷ decimal_of place) (encoded_of s.first)) begun)
 
-  pub sign_two : 2 ≤ s.second → (f : ℕ) (lf : List ℕ) → Prints le e (encoded_of s.then) f lf → Prints l at (sign_line place (shown_text s)) f lf
-  sign_two h f lf fifth =
+  pub sign_two : 2 ≤ s.second → (r : Page) → PagePrints q (encoded_of s.then) r → PagePrints p (sign_line place (shown_text s)) r
+  sign_two h r fifth =
       rw (le-ltb s.second 2 h)
-      (prints_as l at _ _ f lf (two_points (blank ∷ decimal_of place) (encoded_of s.first) (encoded_of s.then))
-      (prints_on l at ((blank ∷ decimal_of place ++ colon ∷ []) ++ encoded_of s.first) e le (encoded_of s.then) f lf begun fifth))
+      (page_as p _ _ r (two_points (blank ∷ decimal_of place) (encoded_of s.first) (encoded_of s.then))
+      (page_on p ((blank ∷ decimal_of place ++ colon ∷ []) ++ encoded_of s.first) q (encoded_of s.then) r begun fifth))

@@ -5,7 +5,7 @@
 use mathlib.Core.Path.{◌≡◌, refl, sym, ap, ◌∙◌, subst}
 use mathlib.Core.List.{List, [], ◌∷◌}
 use mathlib.Core.Logic.{◌⊎◌, inl, inr}
-use Prim.Native.Nat.{ℕ, ◌+◌, ◌-◌, ◌≤◌, ◌<◌}
+use Prim.Native.Nat.{ℕ, ◌+◌, ◌≤◌, ◌<◌}
 use native.Mathlib.Omega.{arith}
 use lib.ListN.{length, length-append}
 use borrow.Author.Tests.{eq-eqb, ne_eqb}
@@ -26,8 +26,9 @@ use Rattle.stepper.proofs.Visiting.{Coded, coded_text}
 use Rattle.desk.specs.declared.Sign as desk
 use Rattle.desk.specs.Shows.{points_of, sign_of, ShowsSign}
 use Rattle.desk.proofs.Demands.{one_sign}
-use Rattle.printing.specs.Printed.{Prints}
-use Rattle.printing.proofs.Printed.{prints_as, Mid, mid_start, mid_on, mid_done}
+use Rattle.printing.specs.declared.Page.{Page}
+use Rattle.printing.specs.Pages.{PagePrints}
+use Rattle.printing.proofs.Printed.{page_as, Mid, mid_start, mid_on, mid_done}
 use Rattle.sign_lines.specs.Signs.{sign_line, sign_lines}
 use Rattle.sign_lines.specs.Walk.{shown_text, Accepted, SignsPrinted}
 
@@ -61,17 +62,17 @@ module _ (row : Row) (t : Text) (h : ReadsAs castilian row t) where
       (record { shown = steps.Sign lead point next; promise = sign_there lead point next e; shows = refl })
 
 -- THE WALK
-pub record Walk (row : Row) (lent : List ℕ) (at : ℕ) (out : List ℕ) (place end : ℕ) : Type 0 where
+pub record Walk (row : Row) (first : Page) (place : ℕ) (page : Page) : Type 0 where
   pub text : Text
   pub reads : ReadsAs castilian row text
   pub left : List Sign
   pub coded : Coded left
   pub filled : Filled castilian sane left
   pub here : Left castilian sane row text reads place left
-  pub printed : Mid lent at (sign_lines 0 (signs_of castilian text)) (sign_lines place left) end out
+  pub printed : Mid first (sign_lines 0 (signs_of castilian text)) (sign_lines place left) page
 
-module _ (row : Row) (lent : List ℕ) (at : ℕ) where
-  pub walk_start : Accepted row → Walk row lent at lent 0 at
+module _ (row : Row) (first : Page) where
+  pub walk_start : Accepted row → Walk row first 0 first
   walk_start a =
       let t : Text = a.0 in
       let h : ReadsAs castilian row t = a.1 in
@@ -82,49 +83,48 @@ module _ (row : Row) (lent : List ℕ) (at : ℕ) where
         coded = coded_text castilian sane t row h.reads;
         filled = filled_signs castilian sane t row h.reads;
         here = (λ k. ap (sign_at ss) (omega arith), omega (arith, ap length (signs_join castilian sane t row h.reads).1));
-        printed = mid_start lent at (sign_lines 0 ss);
+        printed = mid_start first (sign_lines 0 ss);
       }
 
-  module _ (out : List ℕ) (place end : ℕ) (w : Walk row lent at out place end) where
+  module _ (place : ℕ) (page : Page) (w : Walk row first place page) where
     -- a sign, printed: the walk goes on at the place that the step gives, which is further on and not past the row's end
     pub walk_on : place < length row → (g : desk.Sign) → ShowsSign castilian row place g
-        → (end' : ℕ) (out' : List ℕ) → Prints out end (sign_line place (shown_text g)) end' out'
-        → Walk row lent at out' g.next end' × (place < g.next) × (g.next ≤ length row)
-    walk_on inside g shows_g end' out' p = go w.left w.coded w.filled w.here w.printed
+        → (next_page : Page) → PagePrints page (sign_line place (shown_text g)) next_page
+        → Walk row first g.next next_page × (place < g.next) × (g.next ≤ length row)
+    walk_on inside g shows_g next_page p = go w.left w.coded w.filled w.here w.printed
       where
         go : (ss : List Sign) → Coded ss → Filled castilian sane ss → Left castilian sane row w.text w.reads place ss
-            → Mid lent at (sign_lines 0 (signs_of castilian w.text)) (sign_lines place ss) end out
-            → Walk row lent at out' g.next end' × (place < g.next) × (g.next ≤ length row)
+            → Mid first (sign_lines 0 (signs_of castilian w.text)) (sign_lines place ss) page
+            → Walk row first g.next next_page × (place < g.next) × (g.next ≤ length row)
         go [] c f l m = absurd (omega (arith, l.1, inside))
         go (s ∷ ss) c f l m =
             let next : ℕ = place + length s.taken in
             let is : g ≡ points_of c.0.0 c.0.1 next = step_is row w.text w.reads place s ss l c.0.0 c.0.1 c.0.2 g shows_g in
             let shown_is : shown_text g ≡ s.shown = ap shown_text is ∙ shown_points c.0.0 c.0.1 next ∙ sym c.0.2 in
             let next_is : g.next ≡ next = ap (λ (x : desk.Sign). x.next) is ∙ next_points c.0.0 c.0.1 next in
-            let on : Walk row lent at out' next end' = record {
+            let on : Walk row first next next_page = record {
               text = w.text;
               reads = w.reads;
               left = ss;
               coded = c.1;
               filled = f.1;
               here = left_on castilian sane row w.text w.reads place s ss f.0 l;
-              printed = mid_on lent at (sign_lines 0 (signs_of castilian w.text)) (sign_lines place (s ∷ ss)) end out m (sign_line place s.shown) (sign_lines next ss) end' out' refl
-                  (prints_as out end (sign_line place (shown_text g)) (sign_line place s.shown) end' out' (ap (sign_line place) shown_is) p);
+              printed = mid_on first (sign_lines 0 (signs_of castilian w.text)) (sign_lines place (s ∷ ss)) page m (sign_line place s.shown) (sign_lines next ss) next_page refl
+                  (page_as page (sign_line place (shown_text g)) (sign_line place s.shown) next_page (ap (sign_line place) shown_is) p);
             } in (
-              subst (λ (n : ℕ). Walk row lent at out' n end') (sym next_is) on,
+              subst (λ (n : ℕ). Walk row first n next_page) (sym next_is) on,
               omega (arith, next_is, f.0),
               omega (arith, next_is, l.1, length-append s.taken (cells_of ss)),
             )
 
     -- at the row's end no sign is left
-    pub walk_done : length row ≤ place → SignsPrinted row lent at end out
+    pub walk_done : length row ≤ place → (page.out.ghost_name ≡ first.out.ghost_name) × SignsPrinted row first.out.now first.at page.at page.out.now
     walk_done h = go w.left w.filled w.here w.printed
       where
         go : (ss : List Sign) → Filled castilian sane ss → Left castilian sane row w.text w.reads place ss
-            → Mid lent at (sign_lines 0 (signs_of castilian w.text)) (sign_lines place ss) end out → SignsPrinted row lent at end out
-        go [] f l m = record {
-          text = w.text;
-          reads = w.reads;
-          prints = mid_done lent at (sign_lines 0 (signs_of castilian w.text)) [] end out m refl;
-        }
+            → Mid first (sign_lines 0 (signs_of castilian w.text)) (sign_lines place ss) page
+            → (page.out.ghost_name ≡ first.out.ghost_name) × SignsPrinted row first.out.now first.at page.at page.out.now
+        go [] f l m =
+            let done : PagePrints first (sign_lines 0 (signs_of castilian w.text)) page = mid_done first (sign_lines 0 (signs_of castilian w.text)) [] page m refl in
+            (done.same, record { text = w.text; reads = w.reads; prints = done.prints })
         go (s ∷ ss) f l m = absurd (omega (arith, h, f.0, l.1, length-append s.taken (cells_of ss)))

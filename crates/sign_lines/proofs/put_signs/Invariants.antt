@@ -5,7 +5,7 @@ use Rattle.sign_lines.proofs.Walk.{Walk}
 use Rattle.sign_lines.proofs.put_signs.Given as goal
 
 abbrev pub invariant-loop-place : goal.invariant-loop-place
-invariant-loop-place l = Walk l.row l.initial.out l.at l.out l.place l.end
+invariant-loop-place l = Walk l.row l.initial.page l.place l.page
 
 abbrev pub decreases-loop-place : goal.decreases-loop-place
 decreases-loop-place l = length l.row - l.place
