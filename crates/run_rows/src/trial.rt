@@ -107,9 +107,10 @@ fn walk_of<'a>(row: &[u8], text: &'a [u32]) -> Option<Walk<'a>> {
 // Do the steps of a row show its text, sign by sign from its first cell on, and nothing at any other place? Of a long row its first places are asked, its end,
 // and one far behind.
 fn is_walked(row: &[u8], text: &[u32]) -> bool {
-    let is_whole = row.len() < places_of(row);
-    walk_of(row, text).is_some_and(|walk| !is_whole
-        || (walk.due == row.len() && walk.left.is_empty()))
+    let Some(walk) = walk_of(row, text) else {
+        return false;
+    };
+    places_of(row) <= row.len() || (walk.due == row.len() && walk.left.is_empty())
 }
 
 // Is a step at a place refused so? None: is it not refused?
