@@ -10,7 +10,7 @@ mod trials;
 mod vector;
 
 use desk::{DONE, Shown};
-use points::{TEN, number_in};
+use points::{Base, number_in};
 use std::io;
 use trials::Trial;
 use vector::Vector;
@@ -149,8 +149,8 @@ impl<'a> Progress<'a> {
 fn refusal_in(part: &[u8]) -> Option<Shown> {
     let (number, second) = lines::around_blank(part);
     Some(Shown {
-        number: number_in(number, TEN)? as usize,
-        second: number_in(second, TEN)? as usize,
+        number: number_in(number, Base::Ten)? as usize,
+        second: number_in(second, Base::Ten)? as usize,
     })
 }
 

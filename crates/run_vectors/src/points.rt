@@ -3,18 +3,20 @@ ghost use Rattle.std.specs.Prelude.{◌≤◌, IfSome, length};
 
 use crate::lines::BLANK;
 
-pub const TEN: u32 = 10;
-
-const SIXTEEN: u32 = 16;
+// In which base a number is written.
+#[derive(Clone, Copy)]
+pub enum Base {
+    Ten = 10,
+    Sixteen = 16,
+}
 
 // The number that a part writes in a base. None: it is not in its form. No number of a vector needs more bits: "A length above 4,294,967,295 is reported as that
 // number."
-pub fn number_in(part: &[u8], base: u32) -> Option<u32>
-    requires { (2 ≤ base) × (base ≤ 16) }
-{
+pub fn number_in(part: &[u8], base: Base) -> Option<u32> {
     if part.is_empty() {
         return None;
     }
+    let base = base as u32;
     let mut number: u32 = 0;
     for byte in part {
         let digit = char::from(*byte).to_digit(base)?;
@@ -42,7 +44,8 @@ fn put_numbers(part: &[u8], out: &mut [u32]) -> Option<usize>
         if count == out.len() {
             return None;
         }
-        out[count] = number_in(number.strip_suffix(&[BLANK]).unwrap_or(number), SIXTEEN)?;
+        let digits = number.strip_suffix(&[BLANK]).unwrap_or(number);
+        out[count] = number_in(digits, Base::Sixteen)?;
         count += 1;
     }
     Some(count)

@@ -1,7 +1,7 @@
 // A vector, and its lines in their order.
 ghost use Rattle.std.specs.Prelude.{◌≤◌, IfSome, length};
 
-use crate::points::{TEN, Written, number_in};
+use crate::points::{Base, Written, number_in};
 
 // A vector as far as its lines have come, by what they say.
 #[derive(Clone, Copy)]
@@ -48,7 +48,7 @@ impl<'a> Vector<'a> {
         if self.print.is_none() || self.times.is_some() || self.before.is_some() {
             return None;
         }
-        if number_in(times, TEN) == Some(0) {
+        if number_in(times, Base::Ten) == Some(0) {
             return None;
         }
         Some(Vector {
@@ -70,7 +70,7 @@ impl<'a> Vector<'a> {
     // How often the print and the cells are repeated: once, where no line says. None: the number is not in its form.
     fn repeats(self) -> Option<u32> {
         match self.times {
-            Some(part) => number_in(part, TEN),
+            Some(part) => number_in(part, Base::Ten),
             None => Some(1),
         }
     }
