@@ -29,7 +29,7 @@ pub struct Sign {
     pub next: usize,
 }
 
-// The numbers of paper 01's table, "Numbers the desk shows".
+// The numbers of paper 01's table, "Numbers the desk shows". DONE is that of no refusal.
 pub const DONE: usize = 0;
 
 pub const TOO_LONG: usize = 1;
