@@ -39,6 +39,7 @@ fn cell_of(dots: &[u8]) -> u8 {
 fn put_cells(line: &[u8], row: &mut [u8]) -> Option<usize>
     ensures { IfSome result (λ n. n ≤ length row.new) }
 {
+    // counted here, and not by `enumerate`: how many they are is the answer
     let mut count = 0;
     for dots in line.split(|byte| *byte == BETWEEN_CELLS) {
         if count == row.len() {
@@ -60,6 +61,7 @@ fn tell_line(rt: &impl Print, line: &[u8]) -> io::Result<()> {
     };
     let answer = trial::tried(rt, &row[..count], &mut text, &mut back)?;
     let points = Points(&text[..trial::written(answer).min(TEXT_ROOM)]);
+    // a line of standard input may be any bytes, which `Display` cannot write
     rt.write_all(line)?;
     println!(rt; " -> {} {}{points}", answer.number, answer.second)
 }

@@ -31,6 +31,7 @@ fn has_sign(point: u32) -> bool {
 fn find_signs(points: &mut [u32]) -> usize
     ensures { result ≤ length points.old }
 {
+    // counted here, and not by `enumerate`: not each code point is put, and how many are is the answer
     let mut count = 0;
     for point in 0..=LAST_POINT {
         if count < points.len() && has_sign(point) {

@@ -78,6 +78,7 @@ impl<'a> Progress<'a> {
             self.failed = self.failed.saturating_add(1);
             return Ok(());
         }
+        // a name may be any bytes, which `Display` cannot write
         rt.write_all(b"ok ")?;
         rt.write_all(name)?;
         println!(rt; "")

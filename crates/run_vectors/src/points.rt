@@ -39,6 +39,7 @@ pub enum Written<'a> {
 fn put_numbers(part: &[u8], out: &mut [u32]) -> Option<usize>
     ensures { IfSome result (λ n. n ≤ length out.new) }
 {
+    // counted here, and not by `enumerate`: how many they are is the answer
     let mut count = 0;
     for number in part.split_inclusive(|byte| *byte == BLANK) {
         if count == out.len() {
@@ -80,6 +81,7 @@ impl<'a> Written<'a> {
         if out.len() < count {
             return None;
         }
+        // place by place: what is copied grows with what is written, and `copy_within` takes it as it was
         for place in once..count {
             out[place] = out[place - once];
         }

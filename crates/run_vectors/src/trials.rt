@@ -1,4 +1,4 @@
-// One vector against the desk, at several rooms.
+// One vector against the desk, at several rooms. It is the export for C that is tried, so its answers are taken as that shows them: by two numbers.
 use desk::{DONE, NEEDS_ROOM, Shown};
 use std::io;
 
@@ -65,6 +65,7 @@ impl<'a> Trial<'a> {
         }
         let room = row.len();
         let place = difference.unwrap_or(room);
+        // a name may be any bytes, which `Display` cannot write
         rt.write_all(b"FAILED ")?;
         rt.write_all(self.name)?;
         println!(rt; " {room} {} {} {place}", got.number, got.second)?;
