@@ -11,7 +11,7 @@ use transcriber::Refusal;
 // What the desk shows. number 0: done, and second is the count of what was written. Any other number is a refusal of paper 01's table, and second its
 // second number.
 #[repr(C)]
-#[derive(Clone, Copy)]
+#[derive(Clone, Copy, PartialEq, Eq)]
 pub struct Shown {
     pub number: usize,
     pub second: usize,
@@ -32,21 +32,21 @@ pub struct Sign {
 // The numbers of paper 01's table, "Numbers the desk shows". DONE is that of no refusal.
 pub const DONE: usize = 0;
 
-const TOO_LONG: usize = 1;
+pub const TOO_LONG: usize = 1;
 
-const NO_SIGN: usize = 2;
+pub const NO_SIGN: usize = 2;
 
-const PAIR_BROKEN: usize = 3;
+pub const PAIR_BROKEN: usize = 3;
 
-const OUTSIDE_FORM: usize = 4;
+pub const OUTSIDE_FORM: usize = 4;
 
-const SHARES_CELLS: usize = 5;
+pub const SHARES_CELLS: usize = 5;
 
-const NEEDS_ROOM: usize = 6;
+pub const NEEDS_ROOM: usize = 6;
 
-const NOT_A_CELL: usize = 7;
+pub const NOT_A_CELL: usize = 7;
 
-const NO_TEXT: usize = 8;
+pub const NO_TEXT: usize = 8;
 
 // The two numbers of an answer.
 #[tactic(auto, unfolding(crate::specs::Shows::shown_of, transcriber::specs::Promise::numbers_of, rules::specs::Refusals::number_of, rules::specs::Refusals::second_of))]

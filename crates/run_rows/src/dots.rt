@@ -1,11 +1,12 @@
 // The rows of standard input: a line for each, in dots as the paper writes them, `3456-23-1`; 0 is the blank cell.
-ghost use Rattle.std.specs.Prelude.{◌≤◌, length};
+ghost use Rattle.std.specs.Prelude.{◌≤◌, IfSome, length};
 
+use crate::say::Points;
 use crate::trial::UNTOUCHED;
 use crate::{say, trial};
 use std::io;
 
-const LINE_FEED: u8 = 10;
+const LINE_FEED: u8 = b'\n';
 
 const BETWEEN_CELLS: u8 = b'-';
 
@@ -16,21 +17,6 @@ const CELLS_ROOM: usize = 64;
 
 // A sign of one cell may be two code points, and none is more.
 const TEXT_ROOM: usize = 128;
-
-// Where the line that starts at `from` ends.
-fn line_end(file: &[u8], from: usize) -> usize
-    requires { from ≤ length file.now }
-    ensures { (from ≤ result) × (result ≤ length file.now) }
-{
-    let mut i = from;
-    while i < file.len() {
-        if file[i] == LINE_FEED {
-            return i;
-        }
-        i += 1;
-    }
-    i
-}
 
 // What a dot counts.
 fn worth_of(dot: u8) -> u8 {
@@ -45,67 +31,45 @@ fn worth_of(dot: u8) -> u8 {
     }
 }
 
-// How many cells a byte of a line ends: 1 or 0.
-fn ends(byte: u8) -> usize
-    ensures { result ≤ 1 }
+fn cell_of(dots: &[u8]) -> u8 {
+    dots.iter().fold(BLANK, |cell, dot| cell | worth_of(*dot))
+}
+
+// Puts the cells of a line at the front of a row: how many they are. None: there is no room for them.
+fn put_cells(line: &[u8], row: &mut [u8]) -> Option<usize>
+    ensures { IfSome result (λ n. n ≤ length row.new) }
 {
-    if byte == BETWEEN_CELLS { 1 } else { 0 }
-}
-
-// Adds a dot to the cell at a place.
-fn put_dot(row: &mut [u8], at: usize, dot: u8) {
-    if at < row.len() {
-        row[at] = row[at] | worth_of(dot);
-    }
-}
-
-// Puts the cells of a line at the front of a row of blanks: how many they are.
-fn put_cells(line: &[u8], row: &mut [u8]) -> usize {
+    // counted here, and not by `enumerate`: how many they are is the answer
     let mut count = 0;
-    let mut i = 0;
-    while i < line.len() {
-        count += ends(line[i]);
-        put_dot(row, count, line[i]);
-        i += 1;
+    for dots in line.split(|byte| *byte == BETWEEN_CELLS) {
+        if count == row.len() {
+            return None;
+        }
+        row[count] = cell_of(dots);
+        count += 1;
     }
-    count + 1
+    Some(count)
 }
 
-// Tries the row of a line, and tells the answer and the text.
-fn tell_row(rt: &impl Print, line: &[u8], row: &[u8]) -> io::Result<()> {
+// A line: its row is tried, and the answer and the text are told.
+fn tell_line(rt: &impl Print, line: &[u8]) -> io::Result<()> {
+    let mut row = [BLANK; CELLS_ROOM];
     let mut text = [UNTOUCHED; TEXT_ROOM];
     let mut back = [BLANK; CELLS_ROOM];
-    let answer = trial::tried(rt, row, &mut text, &mut back)?;
-    say::name(rt, line)?;
-    say::answer_and_text(
-        rt,
-        answer.number,
-        answer.second,
-        &text,
-        trial::written(answer),
-    )
-}
-
-// A line: its row is tried.
-fn tell_line(rt: &impl Print, file: &[u8], from: usize, to: usize) -> io::Result<()>
-    requires { (from ≤ to) × (to ≤ length file.now) }
-{
-    let mut row = [BLANK; CELLS_ROOM];
-    let line = &file[from..to];
-    let count = put_cells(line, &mut row);
-    if CELLS_ROOM < count {
+    let Some(count) = put_cells(line, &mut row) else {
         return say::too_long(rt);
-    }
-    tell_row(rt, line, &row[..count])
+    };
+    let answer = trial::tried(rt, &row[..count], &mut text, &mut back)?;
+    let points = Points(&text[..trial::written(answer).min(TEXT_ROOM)]);
+    // a line of standard input may be any bytes, which `Display` cannot write
+    rt.write_all(line)?;
+    println!(rt; " -> {} {}{points}", answer.number, answer.second)
 }
 
 // Every line.
 pub fn run(rt: &impl Print, file: &[u8]) -> io::Result<()> {
-    let mut from = 0;
-    while from < file.len() {
-        let to = line_end(file, from);
-        tell_line(rt, file, from, to)?;
-        from = to + 1;
+    for line in file.split_inclusive(|byte| *byte == LINE_FEED) {
+        tell_line(rt, line.strip_suffix(&[LINE_FEED]).unwrap_or(line))?;
     }
     Ok(())
 }

@@ -1,16 +1,10 @@
-// One row: read, transcribed back, and stepped through.
+// One row: read, transcribed back, and stepped through. An answer's numbers are those that the desk shows.
 ghost use Rattle.std.specs.Prelude.{◌≤◌};
 
 use crate::say;
+use desk::{DONE, NEEDS_ROOM};
 use std::io;
 use stepper::Shown;
-
-// The numbers of paper 01's table that are told apart here. An answer's numbers are those that the desk shows.
-pub const DONE: usize = 0;
-
-const NEEDS_ROOM: usize = 6;
-
-pub const NO_TEXT: usize = 8;
 
 // What every element of a lent text holds before a call: it is no code point.
 pub const UNTOUCHED: u32 = 0xFFFFFFFF;
@@ -18,20 +12,13 @@ pub const UNTOUCHED: u32 = 0xFFFFFFFF;
 // The `lead` of a sign that shows one code point.
 const NO_LEAD: u32 = 0;
 
-// A place that no row and no text has: where a walk is that has lost its way.
-const NOWHERE: usize = 0xFFFFFFFFFFFFFFFF;
+// A place that no row has.
+const FAR_BEHIND: usize = usize::MAX;
 
 // A row is asked for the signs at its first places, and a row of fewer cells at all of them and at some past its end.
 const PLACES_ASKED: usize = 64;
 
 const PLACES_PAST: usize = 3;
-
-// Where a walk is: the place where the next sign is to start, and how much of the text is shown.
-#[derive(Clone, Copy)]
-pub struct Walk {
-    pub due: usize,
-    pub shown: usize,
-}
 
 // How many code points an answer says are written.
 pub fn written(answer: desk::Shown) -> usize {
@@ -44,51 +31,15 @@ pub fn written(answer: desk::Shown) -> usize {
 
 // ---- what a call leaves
 
-// Is the element of a text at a place as it was? (Past the end there is none.)
-fn is_untouched_at(text: &[u32], place: usize) -> bool {
-    if place < text.len() {
-        return text[place] == UNTOUCHED;
-    }
-    true
-}
-
-// Is every element of the text between two places as it was?
-pub fn is_untouched(text: &[u32], from: usize, to: usize) -> bool {
-    let mut place = from;
-    while place < to {
-        if !is_untouched_at(text, place) {
-            return false;
-        }
-        place += 1;
-    }
-    true
-}
-
-// Does `longer` begin with the row?
-fn begins_with(longer: &[u8], row: &[u8]) -> bool {
-    let mut i = 0;
-    while i < row.len() {
-        if longer.len() <= i {
-            return false;
-        }
-        if longer[i] != row[i] {
-            return false;
-        }
-        i += 1;
-    }
-    true
+// Is every element of a part of the text as it was?
+pub fn is_untouched(part: &[u32]) -> bool {
+    part.iter().all(|element| *element == UNTOUCHED)
 }
 
 // Does the text give just this row? It is transcribed to `back`.
 fn gives_back(text: &[u32], row: &[u8], back: &mut [u8]) -> bool {
     let answer = desk::numbers(transcriber::transcribe(text, back));
-    if answer.number != DONE {
-        return false;
-    }
-    if answer.second != row.len() {
-        return false;
-    }
-    begins_with(back, row)
+    answer.number == DONE && answer.second == row.len() && back.starts_with(row)
 }
 
 // ---- steps
@@ -103,32 +54,6 @@ fn places_of(row: &[u8]) -> usize
     row.len() + PLACES_PAST
 }
 
-// Behind the code point at a place of the text, or NOWHERE where another stands there.
-fn behind_point(text: &[u32], at: usize, point: u32) -> usize {
-    if at < text.len() {
-        if text[at] == point {
-            return at + 1;
-        }
-    }
-    NOWHERE
-}
-
-// Behind the print of a sign.
-fn behind_sign(text: &[u32], at: usize, lead: u32, point: u32) -> usize {
-    if lead == NO_LEAD {
-        return behind_point(text, at, point);
-    }
-    behind_point(text, behind_point(text, at, lead), point)
-}
-
-// The walk has lost its way, and does not find it again.
-fn lost() -> Walk {
-    Walk {
-        due: NOWHERE,
-        shown: NOWHERE,
-    }
-}
-
 // What the screen shows at a place: the first step, or one by a reader that was moved there.
 fn shown_there(row: &[u8], place: usize) -> Shown {
     if place == 0 {
@@ -137,76 +62,71 @@ fn shown_there(row: &[u8], place: usize) -> Shown {
     screen::shown_at(row, place)
 }
 
-// What a step at a place makes of a walk. A sign is to be shown where the walk is, and at no other place; the screen goes on behind it, and else stays.
-fn stepped(row: &[u8], text: &[u32], place: usize, walk: Walk) -> Walk {
-    let is_due = place == walk.due && place < row.len();
-    let shown = shown_there(row, place);
-    let after = screen::place_after(shown, place);
-    match shown {
-        Shown::Sign { lead, point, next } => {
-            if !is_due || next <= place || after != next {
-                return lost();
+// Behind the print of a sign, or none where the text goes on otherwise.
+fn behind_sign(text: &[u32], lead: u32, point: u32) -> Option<&[u32]> {
+    if lead == NO_LEAD {
+        return text.strip_prefix(&[point]);
+    }
+    text.strip_prefix(&[lead, point])
+}
+
+// Where a walk is: the place where the next sign is to start, and what of the text is not shown yet.
+#[derive(Clone, Copy)]
+struct Walk<'a> {
+    due: usize,
+    left: &'a [u32],
+}
+
+impl<'a> Walk<'a> {
+    // What a step at a place makes of a walk, or none where it has lost its way. A sign is to be shown where the walk is, and at no other place; the screen goes on behind
+    // it, and else stays.
+    fn stepped(self, row: &[u8], place: usize) -> Option<Walk<'a>> {
+        let is_due = place == self.due && place < row.len();
+        let shown = shown_there(row, place);
+        let after = screen::place_after(shown, place);
+        match shown {
+            Shown::Sign { lead, point, next } if is_due && place < next && after == next => {
+                let left = behind_sign(self.left, lead, point)?;
+                Some(Walk { due: next, left })
             }
-            Walk {
-                due: next,
-                shown: behind_sign(text, walk.shown, lead, point),
-            }
+            Shown::Still if !is_due && after == place => Some(self),
+            _ => None,
         }
-        Shown::Still => if is_due || after != place {
-            lost()
-        } else {
-            walk
-        },
-        Shown::Refused(_) => lost(),
     }
 }
 
-// Where the steps at the first places lead.
-fn walk_of(row: &[u8], text: &[u32], places: usize) -> Walk {
-    let mut walk = Walk { due: 0, shown: 0 };
-    let mut place = 0;
-    while place < places {
-        walk = stepped(row, text, place, walk);
-        place += 1;
+// Where the steps of a row lead: those at its first places, at its end, and far behind.
+fn walk_of<'a>(row: &[u8], text: &'a [u32]) -> Option<Walk<'a>> {
+    let mut walk = Walk { due: 0, left: text };
+    for place in 0..places_of(row) {
+        walk = walk.stepped(row, place)?;
     }
-    walk
+    walk.stepped(row, row.len())?.stepped(row, FAR_BEHIND)
 }
 
 // Do the steps of a row show its text, sign by sign from its first cell on, and nothing at any other place? Of a long row its first places are asked, its end,
 // and one far behind.
 fn is_walked(row: &[u8], text: &[u32]) -> bool {
-    let places = places_of(row);
-    let begun = walk_of(row, text, places);
-    let at_end = stepped(row, text, row.len(), begun);
-    let walk = stepped(row, text, NOWHERE, at_end);
-    if row.len() < places {
-        return walk.due == row.len() && walk.shown == text.len();
-    }
-    walk.due != NOWHERE && walk.shown != NOWHERE
+    let Some(walk) = walk_of(row, text) else {
+        return false;
+    };
+    places_of(row) <= row.len() || (walk.due == row.len() && walk.left.is_empty())
 }
 
-// Is a step at a place refused so? (Number 0: is it not refused?)
-fn is_refused_at(row: &[u8], place: usize, number: usize, second: usize) -> bool {
+// Is a step at a place refused so? None: is it not refused?
+fn is_refused_at(row: &[u8], place: usize, asked: Option<desk::Shown>) -> bool {
     let shown = shown_there(row, place);
     let after = screen::place_after(shown, place);
-    let Shown::Refused(answer) = shown else {
-        return number == DONE;
-    };
-    let refusal = desk::read_numbers(answer);
-    refusal.number == number && refusal.second == second && after == place
+    match shown {
+        Shown::Refused(answer) => asked == Some(desk::read_numbers(answer)) && after == place,
+        _ => asked.is_none(),
+    }
 }
 
 // Is the step at every place that is asked refused so?
-fn is_refused(row: &[u8], number: usize, second: usize) -> bool {
-    let places = places_of(row);
-    let mut place = 0;
-    while place < places {
-        if !is_refused_at(row, place, number, second) {
-            return false;
-        }
-        place += 1;
-    }
-    is_refused_at(row, NOWHERE, number, second)
+fn is_refused(row: &[u8], asked: Option<desk::Shown>) -> bool {
+    (0..places_of(row)).all(|place| is_refused_at(row, place, asked))
+        && is_refused_at(row, FAR_BEHIND, asked)
 }
 
 // ---- one row
@@ -214,23 +134,23 @@ fn is_refused(row: &[u8], number: usize, second: usize) -> bool {
 // A row that was read: it is the row of the text, and its steps show the text.
 fn check_read(rt: &impl Print, row: &[u8], text: &[u32], back: &mut [u8]) -> io::Result<()> {
     if !gives_back(text, row, back) {
-        say::disagrees(rt, b"the text has another row", row)?;
+        say::disagrees(rt, "the text has another row", row)?;
     }
     if !is_walked(row, text) {
-        say::disagrees(rt, b"the steps show another text", row)?;
+        say::disagrees(rt, "the steps show another text", row)?;
     }
     Ok(())
 }
 
 // A row that was refused: "A row that isn't accepted is refused as reading refuses it, but never with 6".
 fn check_refused(rt: &impl Print, row: &[u8], refusal: desk::Shown) -> io::Result<()> {
-    let as_due = if refusal.number == NEEDS_ROOM {
-        is_refused(row, DONE, 0)
+    let asked = if refusal.number == NEEDS_ROOM {
+        None
     } else {
-        is_refused(row, refusal.number, refusal.second)
+        Some(refusal)
     };
-    if !as_due {
-        say::disagrees(rt, b"a step is refused otherwise", row)?;
+    if !is_refused(row, asked) {
+        say::disagrees(rt, "a step is refused otherwise", row)?;
     }
     Ok(())
 }
@@ -243,16 +163,15 @@ pub fn tried(
     back: &mut [u8],
 ) -> io::Result<desk::Shown> {
     let answer = desk::read_numbers(reader::read(row, text));
-    let count = written(answer);
-    if text.len() < count {
-        say::disagrees(rt, b"a count above what was lent", row)?;
+    let Some((text, behind)) = text.split_at_checked(written(answer)) else {
+        say::disagrees(rt, "a count above what was lent", row)?;
         return Ok(answer);
-    }
-    if !is_untouched(text, count, text.len()) {
-        say::disagrees(rt, b"an element behind the text is touched", row)?;
+    };
+    if !is_untouched(behind) {
+        say::disagrees(rt, "an element behind the text is touched", row)?;
     }
     if answer.number == DONE {
-        check_read(rt, row, &text[..count], back)?;
+        check_read(rt, row, text, back)?;
     } else {
         check_refused(rt, row, answer)?;
     }

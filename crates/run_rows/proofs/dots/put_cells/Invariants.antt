@@ -1,10 +1,7 @@
--- `run_rows::dots::put_cells` is safe and ends. The invariant: no more cells are ended than bytes are passed, and the row keeps its length.
--- The measure is what is left of the line. Assumes nothing.
-use Rattle.std.proofs.Common.{◌-◌, ◌≤◌, ◌≡◌, length}
+-- `run_rows::dots::put_cells` is safe. The invariant: no more cells are put than there is room for. Assumes nothing.
+use Rattle.std.proofs.Common.{◌≤◌, length}
 use Rattle.run_rows.proofs.dots.put_cells.Given as goal
 
-abbrev pub invariant-loop-i : goal.invariant-loop-i
-invariant-loop-i l = (l.count ≤ l.i) × (l.i ≤ length l.line) × (length l.row ≡ length l.initial.row)
-
-abbrev pub decreases-loop-i : goal.decreases-loop-i
-decreases-loop-i l = length l.line - l.i
+abbrev pub invariant-loop-dots : goal.invariant-loop-dots
+invariant-loop-dots l =
+    (goal.iterator-loop-dots).can_next l.dots-iterator × (goal.iterator-loop-dots).is_finite l.dots-iterator × (l.count ≤ length l.row)

@@ -1,10 +1,6 @@
--- `run_rows::short_rows::of_one_cell` is safe and ends. The invariant: no more rows are counted than cells are passed. The measure is the
--- count of cells that are left. Assumes nothing.
-use Rattle.std.proofs.Common.{◌-◌, ◌≤◌}
+-- `run_rows::short_rows::of_one_cell` is safe. The invariant: no more rows are counted than cells are passed. Assumes nothing.
+use Rattle.std.proofs.Common.{◌≤◌}
 use Rattle.run_rows.proofs.short_rows.of_one_cell.Given as goal
 
 abbrev pub invariant-loop-cell : goal.invariant-loop-cell
 invariant-loop-cell g l = l.count ≤ l.cell
-
-abbrev pub decreases-loop-cell : goal.decreases-loop-cell
-decreases-loop-cell g l = 64 - l.cell

@@ -1,10 +1,7 @@
--- `run_vectors::points::put_numbers` is safe and ends. The invariant: the buffer keeps its length. The measure is what is left of the part: the place moves past
--- the end of a word. Assumes nothing.
-use Rattle.std.proofs.Common.{◌≡◌, ◌-◌, length}
+-- `run_vectors::points::put_numbers` is safe. The invariant: no more code points are put than there is room for. Assumes nothing.
+use Rattle.std.proofs.Common.{◌≤◌, length}
 use Rattle.run_vectors.proofs.points.put_numbers.Given as goal
 
-abbrev pub invariant-loop-i : goal.invariant-loop-i
-invariant-loop-i l = length l.out ≡ length l.initial.out
-
-abbrev pub decreases-loop-i : goal.decreases-loop-i
-decreases-loop-i l = length l.part - l.i
+abbrev pub invariant-loop-number : goal.invariant-loop-number
+invariant-loop-number l =
+    (goal.iterator-loop-number).can_next l.number-iterator × (goal.iterator-loop-number).is_finite l.number-iterator × (l.count ≤ length l.out)
