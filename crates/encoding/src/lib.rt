@@ -52,7 +52,7 @@ fn put(row: &[u8], bytes: &mut [u8]) -> usize
     row.len()
 }
 
-// The bytes of a scalar value, by table 3-6.
+// The bytes of a scalar value, by table 3-6. The table stands here, and std's `encode_utf8` is not called, since must-fail/overlong_bytes_written.edit is about it.
 fn put_bytes(point: u32, bytes: &mut [u8]) -> usize
     requires { point < 0x110000 }
     ensures { Wrote (bytes_of point) bytes.old result bytes.new }

@@ -23,7 +23,7 @@ fn byte_of(point: u32) -> u8
     }
 }
 
-// The row that a line of characters shows.
+// The row that a line of characters shows. It is written by index, since no proof knows what is written through `iter_mut().zip(text)`.
 fn fill_row(text: &[u32], row: &mut [u8])
     requires { length text.now ≤ length row.old }
     ensures { row.new ≡ laid (map byte_of text.now) row.old }

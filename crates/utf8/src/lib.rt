@@ -28,7 +28,7 @@ impl<'a> Iterator for Points<'a> {
     }
 }
 
-// Stores a code point at a place of the text, if it has that place.
+// Stores a code point at a place of the text, if it has that place. It is stored by index, since no proof knows what is written through `get_mut`.
 fn store(text: &mut [u32], place: usize, point: u32)
     ensures { text.new ≡ set text.old place point }
 {
@@ -43,6 +43,7 @@ pub fn decode(bytes: &[u8], text: &mut [u32]) -> usize
     ensures decoded { Decoded bytes.now text.old result text.new }
     ensures upper_bound { result ≤ length bytes.now }
 {
+    // The count is the answer, so it outlives the loop.
     let mut count = 0;
     for point in (Points { bytes }) {
         store(text, count, point);
