@@ -7,23 +7,20 @@
 
 ghost use Rattle.std.specs.Prelude.{◌≡◌};
 ghost use Rattle.readings.specs.Fields.{class_in, point_in, capital_in, figure_in, lower_in, kind_in, then_in, deed_of};
-ghost use Rattle.readings.specs.Readings.{opener_of, closer_of};
+ghost use Rattle.readings.specs.Readings.{shown, opener_of, closer_of};
 
 pub mod cells;
 mod table;
 
-// What a step gives: the print of the sign (`lead` is a code point that has no cell and goes with it, or NO_POINT), the place after it, and what it
-// leaves: the mode and the open pairs. Or no sign that the rules allow starts there.
+// What a step gives where a sign starts: its print (`lead` is a code point that has no cell and goes before `point`, if it has one), the place after it, and what
+// it leaves: the mode and the open pairs.
 #[derive(Clone, Copy)]
-pub enum Step {
-    Sign {
-        lead: u32,
-        point: u32,
-        next: usize,
-        mode: usize,
-        opened: usize,
-    },
-    Nothing,
+pub struct Step {
+    pub lead: Option<u32>,
+    pub point: u32,
+    pub next: usize,
+    pub mode: usize,
+    pub opened: usize,
 }
 
 // The modes: what the signs before a place leave (tools/readings.txt says what each is).
@@ -174,7 +171,7 @@ pub const POINT_BITS: usize = 16;
 // How many classes a row of the table has room for.
 const TABLE_ROW: usize = 16;
 
-// No code point.
+// No code point, in a field of a word and at a kind that is none.
 pub const NO_POINT: u32 = 0;
 
 // How many kinds of pair marks the look-ups have room for.
@@ -182,6 +179,13 @@ const MARK_PLACES: usize = 8;
 
 // The kind of ‘ and ’, whose cells are 6-236.
 pub const INNER_QUOTES: usize = 3;
+
+// A field of a word as a code point, if it has one.
+pub fn shown(field: u32) -> Option<u32>
+    ensures { result ≡ shown field }
+{
+    if field == NO_POINT { None } else { Some(field) }
+}
 
 // The class of a cell, by its word.
 pub fn class_in(word: u64) -> usize
