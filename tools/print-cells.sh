@@ -27,9 +27,8 @@ ghost use Rattle.readings.specs.Words.{word_of, second_of};
 TEXT
 
 {
-    for name in CAPITAL_AT CLASS_AT FIGURE_AT FREE KIND_AT LOWER_AT MIXED NO_POINT POINT_AT POINT_BITS RUN_BETWEEN RUN_CAPITAL RUN_FIGURE RUN_LOWER THEN_AT USUAL_AT; do echo "$name"; done
+    for name in CAPITAL_AT CLASS_AT FIGURE_AT KIND_AT LOWER_AT Mode NO_POINT POINT_AT POINT_BITS RUN_BETWEEN RUN_CAPITAL RUN_FIGURE RUN_LOWER THEN_AT USUAL_AT; do echo "$name"; done
     printf '%s\n' "$cells" | awk -F '\t' '$1 != "two" { print $3 }'
-    printf '%s\n' "$places" | awk -F '\t' '$3 == "AS_USUAL" { print $2 }'
 } | sh tools/imports.sh
 
 cat <<'TEXT'
@@ -44,9 +43,10 @@ cat <<'TEXT'
 // The bit of a mode.
 TEXT
 printf '%s\n' "$places" | awk -F '\t' '
+function mode(name) { return substr(name, 1, 1) tolower(substr(name, 2)) }
 $3 == "AS_USUAL" && !($2 in told) {
     told[$2] = 1
-    print "const IN_" $2 ": u64 = USUAL_AT << " $2 ";"
+    print "const IN_" $2 ": u64 = USUAL_AT << Mode::" mode($2) " as u64;"
     print ""
 }'
 
@@ -64,7 +64,7 @@ END {
         c = class[i]
         if (!(c in usual)) continue
         print "const AS_" c ": u64 = CLASS_AT * " c
-        print "    + THEN_AT * " (c ~ /LETTER|B_TO_J/ ? "MIXED" : "FREE") " as u64" usual[c] ";"
+        print "    + THEN_AT * Mode::" (c ~ /LETTER|B_TO_J/ ? "Mixed" : "Free") " as u64" usual[c] ";"
         print ""
     }
 }'

@@ -30,7 +30,7 @@ use Rattle.entries.specs.Chosen.{choose}
 use Rattle.entries.proofs.Keys.{among, keys_of, chosen_key}
 use Rattle.pairs.specs.Opened.{open_states, opens_of}
 use Rattle.pairs.proofs.Pairing.{open_is, opening, closing, turned_few, closed_is}
-use Rattle.readings.specs.Modes.{mode_of, mode_count, spare}
+use Rattle.readings.specs.Modes.{mode_of, mode_count, number_of, spare}
 use Rattle.readings.specs.Acts as act
 use Rattle.readings.specs.Fields.{deed_of, class_in, usual_in, no_cell, cell_from, cell_of}
 use Rattle.readings.specs.Words.{word_of}
@@ -40,6 +40,7 @@ use Rattle.readings.specs.Print.{points}
 use Rattle.readings.specs.declared.Step.{Step}
 use Rattle.std.specs.declared.option.Option as rust
 use Rattle.std.specs.Prelude.{Some, None}
+use Rattle.readings.proofs.Numbers.{number_back}
 use Rattle.readings.proofs.Sight.{low, Agree}
 use Rattle.readings.proofs.Settling.{Cand, cands, pick, bucket, sound_word, sound_low, opened_by, step_by, find_picks, bucket_picks, cands_sound, bucket_sound, settle, settled, is_true}
 use Rattle.readings.proofs.Tested.{begun, asks, deeper, sights, right_two, right_one, right_at, all_right, all_sound, thrifty, all_thrifty}
@@ -340,17 +341,17 @@ module _ (row : Row) (at m o : ℕ) (inside : at < length row) (small : m < mode
               ∙ ap (λ (j : ℕ). add_sign (sign_of s) (left n j (drop k row))) eu;
         }
 
-  pub turn_of : (s : Step) → step_at row at m o ≡ Some s → Turn row at m o s.lead s.point s.next s.mode s.opened
+  pub turn_of : (s : Step) → step_at row at m o ≡ Some s → Turn row at m o s.lead s.point s.next (number_of s.mode) s.opened
   turn_of x q = go (find (all_pieces castilian) (mode_of m) (opens_of o) (drop at row)) refl (step_found row at m o small few ∙ q)
     where
       go : (g : Option Cand) → find (all_pieces castilian) (mode_of m) (opens_of o) (drop at row) ≡ g → step_by at o g ≡ Some x
-          → Turn row at m o x.lead x.point x.next x.mode x.opened
+          → Turn row at m o x.lead x.point x.next (number_of x.mode) x.opened
       go none e f = let z : ◌≡◌ {A = ℕ} 0 1 = cc in absurd (omega arith)
       go (some c) e f =
           let y : Step = a_step (lead_of c.0.0) c.0.1.0 (at + length (word c.0)) (mode_number c.1) (opened_by o (mark_of c.0.1.1)) in
           let z : y ≡ x = cc in
-          turn_by c.0 c.1 e x.lead x.point x.next x.mode x.opened
-          (ap (λ (s : Step). s.lead) z) (ap (λ (s : Step). s.point) z) (ap (λ (s : Step). s.next) z) (ap (λ (s : Step). s.mode) z) (ap (λ (s : Step). s.opened) z)
+          turn_by c.0 c.1 e x.lead x.point x.next (number_of x.mode) x.opened
+          (ap (λ (s : Step). s.lead) z) (ap (λ (s : Step). s.point) z) (ap (λ (s : Step). s.next) z) (sym (number_back (mode_number c.1) (mode_small c.1)) ∙ ap (λ (s : Step). number_of s.mode) z) (ap (λ (s : Step). s.opened) z)
 
   pub none_left : step_at row at m o ≡ None → left m o (drop at row) ≡ none
   none_left q = go (find (all_pieces castilian) (mode_of m) (opens_of o) (drop at row)) refl (step_found row at m o small few ∙ q)
@@ -396,7 +397,7 @@ module _ (row : Row) where
     where
       go : (g : rust.Option Step) → step_at row at m o ≡ g → length (print_of ss) + at ≤ length row + spare m
       go None q = absurd (some_not_none e (none_left row at m o inside small few q))
-      go (Some s) q = more s.lead s.point s.next s.mode s.opened (turn_of row at m o inside small few s q) (left s.mode s.opened (drop s.next row)) refl
+      go (Some s) q = more s.lead s.point s.next (number_of s.mode) s.opened (turn_of row at m o inside small few s q) (left (number_of s.mode) s.opened (drop s.next row)) refl
         where
           more : (l : rust.Option ℕ) (p k n u : ℕ) → Turn row at m o l p k n u → (x : Option (List Sign)) → left n u (drop k row) ≡ x → length (print_of ss) + at ≤ length row + spare m
           more l p k n u here none f = absurd (some_not_none e (here.signs_left ∙ ap (add_sign here.sign) f))

@@ -150,7 +150,7 @@ shown n = cond (eqb n no_point) None (Some n)
 
 -- by its lead (or `no_point`), its code point, the place after it, the mode and the open pairs
 abbrev pub a_step : ℕ → ℕ → ℕ → ℕ → ℕ → Step
-a_step l p next m o = record { lead = shown l; point = p; next = next; mode = m; opened = o }
+a_step l p next m o = record { lead = shown l; point = p; next = next; mode = mode.mode_at m; opened = o }
 
 abbrev pub mark_step : ℕ → ℕ → ℕ → Step
 mark_step next o k = a_step no_point (cond (is_open o k) (closer_of k) (opener_of k)) next mode.free (turned_by o k)

@@ -6,11 +6,10 @@ ghost use Rattle.readings.specs.Fields.{point_in, capital_in, letter_in, inside_
 ghost use Rattle.readings.specs.Words.{word_of, second_of};
 
 use crate::{
-    B_TO_J, CAPITAL_AT, CAPITAL_SIGN, CLASS_AT, COMMA, DASH, END, FEM, FIGURE_AT, FIGURE_SIGN,
-    FREE, HYPHEN, KIND_AT, LETTER_A, LETTER_O, LINE, LONE, LOW_ONLY, LOWER_AT, MARK_OR_LOW, MIXED,
-    NO_POINT, NOTHING, NUM, OTHER_LETTER, OWING, PERCENT, POINT_AT, POINT_BITS, PREFIX,
-    RUN_BETWEEN, RUN_CAPITAL, RUN_FIGURE, RUN_LOWER, SEPARATOR, SIGN, SIGN_OR_LOW, STOP, THEN_AT,
-    UNDER, USUAL_AT, WHOLE2,
+    B_TO_J, CAPITAL_AT, CAPITAL_SIGN, CLASS_AT, COMMA, FIGURE_AT, FIGURE_SIGN, KIND_AT, LETTER_A,
+    LETTER_O, LINE, LOW_ONLY, LOWER_AT, MARK_OR_LOW, Mode, NO_POINT, NOTHING, OTHER_LETTER,
+    POINT_AT, POINT_BITS, PREFIX, RUN_BETWEEN, RUN_CAPITAL, RUN_FIGURE, RUN_LOWER, SEPARATOR, SIGN,
+    SIGN_OR_LOW, STOP, THEN_AT, USUAL_AT,
 };
 
 // The cells, by their dots.
@@ -143,33 +142,33 @@ pub const D23456: u8 = 62;
 pub const D123456: u8 = 63;
 
 // The bit of a mode.
-const IN_FREE: u64 = USUAL_AT << FREE;
+const IN_FREE: u64 = USUAL_AT << Mode::Free as u64;
 
-const IN_LONE: u64 = USUAL_AT << LONE;
+const IN_LONE: u64 = USUAL_AT << Mode::Lone as u64;
 
-const IN_MIXED: u64 = USUAL_AT << MIXED;
+const IN_MIXED: u64 = USUAL_AT << Mode::Mixed as u64;
 
-const IN_END: u64 = USUAL_AT << END;
+const IN_END: u64 = USUAL_AT << Mode::End as u64;
 
-const IN_HYPHEN: u64 = USUAL_AT << HYPHEN;
+const IN_HYPHEN: u64 = USUAL_AT << Mode::Hyphen as u64;
 
-const IN_FEM: u64 = USUAL_AT << FEM;
+const IN_FEM: u64 = USUAL_AT << Mode::Fem as u64;
 
-const IN_PERCENT: u64 = USUAL_AT << PERCENT;
+const IN_PERCENT: u64 = USUAL_AT << Mode::Percent as u64;
 
-const IN_OWING: u64 = USUAL_AT << OWING;
+const IN_OWING: u64 = USUAL_AT << Mode::Owing as u64;
 
-const IN_DASH: u64 = USUAL_AT << DASH;
+const IN_DASH: u64 = USUAL_AT << Mode::Dash as u64;
 
-const IN_WHOLE2: u64 = USUAL_AT << WHOLE2;
+const IN_WHOLE2: u64 = USUAL_AT << Mode::Whole2 as u64;
 
-const IN_NUM: u64 = USUAL_AT << NUM;
+const IN_NUM: u64 = USUAL_AT << Mode::Num as u64;
 
-const IN_UNDER: u64 = USUAL_AT << UNDER;
+const IN_UNDER: u64 = USUAL_AT << Mode::Under as u64;
 
 // What a class is: its number, the modes in which it is read as usual, and the mode after it then.
 const AS_LETTER_A: u64 = CLASS_AT * LETTER_A
-    + THEN_AT * MIXED as u64
+    + THEN_AT * Mode::Mixed as u64
     + IN_FREE
     + IN_LONE
     + IN_MIXED
@@ -179,7 +178,7 @@ const AS_LETTER_A: u64 = CLASS_AT * LETTER_A
     + IN_DASH;
 
 const AS_B_TO_J: u64 = CLASS_AT * B_TO_J
-    + THEN_AT * MIXED as u64
+    + THEN_AT * Mode::Mixed as u64
     + IN_FREE
     + IN_LONE
     + IN_MIXED
@@ -189,7 +188,7 @@ const AS_B_TO_J: u64 = CLASS_AT * B_TO_J
     + IN_DASH;
 
 const AS_LETTER_O: u64 = CLASS_AT * LETTER_O
-    + THEN_AT * MIXED as u64
+    + THEN_AT * Mode::Mixed as u64
     + IN_FREE
     + IN_LONE
     + IN_MIXED
@@ -203,7 +202,7 @@ const AS_LETTER_O: u64 = CLASS_AT * LETTER_O
     + IN_UNDER;
 
 const AS_OTHER_LETTER: u64 = CLASS_AT * OTHER_LETTER
-    + THEN_AT * MIXED as u64
+    + THEN_AT * Mode::Mixed as u64
     + IN_FREE
     + IN_LONE
     + IN_MIXED
@@ -217,7 +216,7 @@ const AS_OTHER_LETTER: u64 = CLASS_AT * OTHER_LETTER
     + IN_UNDER;
 
 const AS_STOP: u64 = CLASS_AT * STOP
-    + THEN_AT * FREE as u64
+    + THEN_AT * Mode::Free as u64
     + IN_FREE
     + IN_LONE
     + IN_MIXED
@@ -230,7 +229,7 @@ const AS_STOP: u64 = CLASS_AT * STOP
     + IN_UNDER;
 
 const AS_COMMA: u64 = CLASS_AT * COMMA
-    + THEN_AT * FREE as u64
+    + THEN_AT * Mode::Free as u64
     + IN_FREE
     + IN_LONE
     + IN_MIXED
@@ -243,7 +242,7 @@ const AS_COMMA: u64 = CLASS_AT * COMMA
     + IN_UNDER;
 
 const AS_SIGN_OR_LOW: u64 = CLASS_AT * SIGN_OR_LOW
-    + THEN_AT * FREE as u64
+    + THEN_AT * Mode::Free as u64
     + IN_FREE
     + IN_LONE
     + IN_MIXED
@@ -257,7 +256,7 @@ const AS_SIGN_OR_LOW: u64 = CLASS_AT * SIGN_OR_LOW
     + IN_UNDER;
 
 const AS_MARK_OR_LOW: u64 = CLASS_AT * MARK_OR_LOW
-    + THEN_AT * FREE as u64
+    + THEN_AT * Mode::Free as u64
     + IN_FREE
     + IN_LONE
     + IN_MIXED
@@ -271,7 +270,7 @@ const AS_MARK_OR_LOW: u64 = CLASS_AT * MARK_OR_LOW
     + IN_UNDER;
 
 const AS_SIGN: u64 = CLASS_AT * SIGN
-    + THEN_AT * FREE as u64
+    + THEN_AT * Mode::Free as u64
     + IN_FREE
     + IN_LONE
     + IN_MIXED

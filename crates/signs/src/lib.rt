@@ -4,7 +4,7 @@
 // a word and where nothing is begun, a bit tells it (`is_alone`, `mode_behind`).
 #![tactic(auto)]
 
-ghost use Rattle.std.specs.Prelude.{true, false, ◌≡◌, ◌+◌, ◌<◌, ◌≤◌, length, get_or};
+ghost use Rattle.std.specs.Prelude.{Some, true, false, ◌≡◌, ◌+◌, ◌<◌, ◌≤◌, length, get_or};
 ghost use Rattle.rules.specs.Cells.{last_cell};
 ghost use Rattle.rules.specs.Pairs.{kinds};
 ghost use Rattle.rules.specs.Refusals.{longest_row};
@@ -13,7 +13,7 @@ ghost use Rattle.pairs.specs.Opened.{open_states};
 ghost use Rattle.readings.specs.Modes.{mode_of, mode_count, owing, num, mid, dash};
 ghost use Rattle.readings.specs.Fields.{point_in, kind_in, then_in, usual_in, field_in, run_point, no_cell, cell_of};
 ghost use Rattle.readings.specs.Words.{word_of};
-ghost use Rattle.readings.specs.Readings.{no_point, usual_by, mark_step, digit_cell, step_of, after_capital, capital_by, number_by, percent_by, prefix_by, asked_by, step_at};
+ghost use Rattle.readings.specs.Readings.{no_point, shown, a_step, usual_by, mark_step, digit_cell, step_of, after_capital, capital_by, number_by, percent_by, prefix_by, asked_by, step_at};
 ghost use Rattle.signs.specs.Among.{cell_among, lower_cell, alone_cell};
 ghost use Rattle.signs.specs.Runs.{between, no_run, run_of, home_of, Quick, InRun};
 
@@ -24,9 +24,9 @@ use readings::cells::{
 use readings::{
     CAPITAL, CAPITAL_OF_MANY, DASH, DASH_ONLY, DENOMINATOR, DIGIT, DIGIT_UNDER, END, FEM, FREE,
     HYPHEN, HYPHEN_OR_DASH, INNER_QUOTES, LONE, LOW, LOWER_DIGIT, MASCULINE_MARK, MID, MIXED,
-    MODE_PLACES, NO_POINT, NO_SIGN, NUM, NUMBER_SIGN, ONE_OR_FEMININE, OWING, PERCENT, POINT,
+    MODE_PLACES, NO_SIGN, NUM, NUMBER_SIGN, ONE_OR_FEMININE, OWING, PERCENT, POINT,
     POINT_BITS, POINT_PLACES, SEPARATES, Step, UNDER, UNDER1, WHOLE1, WHOLE2, capital_in, cells,
-    class_in, closer_of, deed_of, figure_in, kind_in, lower_in, opener_of, point_in, then_in,
+    class_in, closer_of, deed_of, figure_in, kind_in, lower_in, opener_of, point_in, shown, then_in,
 };
 
 // How many bits a cell's word has.
@@ -148,10 +148,10 @@ fn byte_at(row: &[u8], place: usize) -> u8
 
 // A sign of one code point.
 fn sign(point: u32, next: usize, mode: usize, opened: usize) -> Step
-    ensures { result ≡ Step.Sign no_point point next mode opened }
+    ensures { result ≡ a_step no_point point next mode opened }
 {
-    Step::Sign {
-        lead: NO_POINT,
+    Step {
+        lead: None,
         point,
         next,
         mode,
@@ -223,55 +223,57 @@ fn after_capital(mode: usize) -> usize
 
 // After 46: a letter is a capital, and the mode before says the mode after it; where a run begins, 46 again and a letter begin one of capitals only; 2 makes >,
 // where no small letter is owed. (The capital is looked up in one place, so that the compiler draws the look-up in.)
-fn capital(row: &[u8], at: usize, mode: usize, opened: usize) -> Step
+fn capital(row: &[u8], at: usize, mode: usize, opened: usize) -> Option<Step>
     requires { (length row.now ≤ longest_row) × (at < length row.now) }
     ensures { result ≡ step_of at opened (capital_by mode (cell_of row.now (at + 1)) (cell_of row.now (at + 2))) }
 {
     let second = cell_at(row, at + 1);
     if second == D2 {
         if mode == OWING {
-            return Step::Nothing;
+            return None;
         }
-        return sign(GREATER, at + 2, FREE, opened);
+        return Some(sign(GREATER, at + 2, FREE, opened));
     }
     let after = after_capital(mode);
     let letter_at = if second == D46 { at + 2 } else { at + 1 };
-    let letter = cells::capital_of(cell_at(row, letter_at));
-    if letter == NO_POINT {
-        return Step::Nothing;
-    }
+    let letter = shown(cells::capital_of(cell_at(row, letter_at)))?;
     if second == D46 {
         if after == LONE {
-            return sign(letter, at + 3, WHOLE1, opened);
+            return Some(sign(letter, at + 3, WHOLE1, opened));
         }
-        return Step::Nothing;
+        return None;
     }
     if after == FREE {
-        return Step::Nothing;
+        return None;
     }
-    sign(letter, at + 2, after, opened)
+    Some(sign(letter, at + 2, after, opened))
 }
 
 // After 3456: a digit begins a number, a lower digit an ordinal or a fraction. (Both are looked up in one table, so that there is no jump for the
 // processor to foresee.)
-fn number(row: &[u8], at: usize, opened: usize) -> Step
+fn number(row: &[u8], at: usize, opened: usize) -> Option<Step>
     requires { (length row.now ≤ longest_row) × (at < length row.now) }
     ensures { result ≡ step_of at opened (number_by (word_of (cell_of row.now (at + 1)))) }
 {
     let second = cell_at(row, at + 1);
     if is_digit(second) {
-        return sign(cells::inside_number(second), at + 2, NUM, opened);
+        return Some(sign(cells::inside_number(second), at + 2, NUM, opened));
     }
     if is_lower(second) {
-        return sign(cells::inside_number(second / LOWERED), at + 2, LOW, opened);
+        return Some(sign(
+            cells::inside_number(second / LOWERED),
+            at + 2,
+            LOW,
+            opened,
+        ));
     }
-    Step::Nothing
+    None
 }
 
 // After 456-356: 356 again makes ‰.
 fn percent(row: &[u8], at: usize, opened: usize) -> Step
     requires { (length row.now ≤ longest_row) × (at < length row.now) }
-    ensures { result ≡ step_of at opened (percent_by (cell_of row.now (at + 2))) }
+    ensures { Some result ≡ step_of at opened (percent_by (cell_of row.now (at + 2))) }
 {
     if cell_at(row, at + 2) == D356 {
         return sign(PER_MILLE, at + 3, FREE, opened);
@@ -279,78 +281,75 @@ fn percent(row: &[u8], at: usize, opened: usize) -> Step
     sign(THE_PERCENT, at + 2, PERCENT, opened)
 }
 
-// A field of 16 bits of a word: a code point, or NO_POINT. (A place is below 64, so that the remainder is the place.)
-fn field_in(word: u64, at: usize) -> u32
-    ensures { result ≡ field_in word at }
+// A field of 16 bits of a word: a code point, if it has one. (A place is below 64, so that the remainder is the place.)
+fn field_in(word: u64, at: usize) -> Option<u32>
+    ensures { result ≡ shown (field_in word at) }
 {
-    ((word >> (at % WORD_BITS)) % POINT_PLACES) as u32
+    shown(((word >> (at % WORD_BITS)) % POINT_PLACES) as u32)
 }
 
 // A sign that begins with a cell that is none by itself and whose word is at hand. "A lower-case a to j directly after a number's last digit has cell 5 before it."
 // (Of ‘ and ’, which have the same cells, the look-up has the opener.)
-fn prefixed(row: &[u8], at: usize, word: u64, deed: usize, opened: usize) -> Step
+fn prefixed(row: &[u8], at: usize, word: u64, deed: usize, opened: usize) -> Option<Step>
     requires { (length row.now ≤ longest_row) × (at < length row.now) × (opened < open_states) }
     ensures { result ≡ step_of at opened (prefix_by deed word (cell_of row.now (at + 1)) (cell_of row.now (at + 2))) }
 {
     let second = cell_at(row, at + 1);
     if deed == SEPARATES {
         if is_digit(second) {
-            return sign(cells::letter_of(second), at + 2, MIXED, opened);
+            return Some(sign(cells::letter_of(second), at + 2, MIXED, opened));
         }
     }
-    let point = field_in(cells::second_word(second), kind_in(word) * POINT_BITS);
-    match point {
-        NO_POINT => Step::Nothing,
+    let point = field_in(cells::second_word(second), kind_in(word) * POINT_BITS)?;
+    Some(match point {
         THE_PERCENT => percent(row, at, opened),
         OPENING_QUOTE => mark(INNER_QUOTES, at + 2, opened),
         _ => sign(point, at + 2, FREE, opened),
-    }
+    })
 }
 
 // What the cells that follow decide; `word` is that of the cell at the place.
-fn asked(row: &[u8], at: usize, word: u64, mode: usize, deed: usize, opened: usize) -> Step
+fn asked(row: &[u8], at: usize, word: u64, mode: usize, deed: usize, opened: usize) -> Option<Step>
     requires { (length row.now ≤ longest_row) × (at < length row.now) × (opened < open_states) }
     ensures { result ≡ step_of at opened (asked_by mode deed word (cell_of row.now (at + 1)) (cell_of row.now (at + 2))) }
 {
+    let second = cell_at(row, at + 1);
     match deed {
         POINT => {
-            if is_digit(cell_at(row, at + 1)) {
-                sign(point_in(word), at + 1, MID, opened)
-            } else {
-                sign(point_in(word), at + 1, END, opened)
-            }
+            let mode_after = if is_digit(second) { MID } else { END };
+            Some(sign(point_in(word), at + 1, mode_after, opened))
         }
         ONE_OR_FEMININE => {
-            if is_digit(cell_at(row, at + 1)) {
-                Step::Sign {
-                    lead: BAR,
+            if is_digit(second) {
+                Some(Step {
+                    lead: Some(BAR),
                     point: THE_ONE,
                     next: at + 1,
                     mode: UNDER1,
                     opened,
-                }
+                })
             } else {
-                Step::Sign {
-                    lead: FULL_STOP,
+                Some(Step {
+                    lead: Some(FULL_STOP),
                     point: FEMININE,
                     next: at + 1,
                     mode: FEM,
                     opened,
-                }
+                })
             }
         }
         HYPHEN_OR_DASH => {
-            if cell_at(row, at + 1) == D36 {
-                sign(THE_DASH, at + 2, DASH, opened)
+            if second == D36 {
+                Some(sign(THE_DASH, at + 2, DASH, opened))
             } else {
-                sign(THE_HYPHEN, at + 1, HYPHEN, opened)
+                Some(sign(THE_HYPHEN, at + 1, HYPHEN, opened))
             }
         }
         DASH_ONLY => {
-            if cell_at(row, at + 1) != D36 {
-                Step::Nothing
+            if second == D36 {
+                Some(sign(THE_DASH, at + 2, DASH, opened))
             } else {
-                sign(THE_DASH, at + 2, DASH, opened)
+                None
             }
         }
         NUMBER_SIGN => number(row, at, opened),
@@ -369,41 +368,40 @@ pub fn word_of(cell: u8) -> u64
 // The sign of a cell that is read as usual: its small letter or sign, or its pair mark.
 pub fn usual(word: u64, at: usize, opened: usize) -> Step
     requires { (at < longest_row) × (opened < open_states) × (point_in word ≡ no_point → kind_in word < kinds) }
-    ensures { result ≡ step_of at opened (usual_by word) }
+    ensures { Some result ≡ step_of at opened (usual_by word) }
 {
-    let point = point_in(word);
-    if point == NO_POINT {
+    let Some(point) = shown(point_in(word)) else {
         return mark(kind_in(word), at + 1, opened);
-    }
+    };
     sign(point, at + 1, then_in(word), opened)
 }
 
 // The sign that starts at a place of the row, where the cell there, whose word is at hand, is not read as usual.
-pub fn sign_at(row: &[u8], at: usize, word: u64, mode: usize, opened: usize) -> Step
+pub fn sign_at(row: &[u8], at: usize, word: u64, mode: usize, opened: usize) -> Option<Step>
     requires { (length row.now ≤ longest_row) × (at < length row.now) × (opened < open_states) × (word ≡ word_of (cell_of row.now at)) × (usual_in word mode ≡ false) }
     ensures { result ≡ step_at row.now at mode opened }
 {
     let deed = deed_of(mode, class_in(word));
     match deed {
-        NO_SIGN => Step::Nothing,
-        DIGIT => sign(figure_in(word), at + 1, NUM, opened),
-        DIGIT_UNDER => sign(figure_in(word), at + 1, UNDER, opened),
-        CAPITAL_OF_MANY => sign(capital_in(word), at + 1, WHOLE2, opened),
-        LOWER_DIGIT => sign(lower_in(word), at + 1, LOW, opened),
-        DENOMINATOR => Step::Sign {
-            lead: BAR,
+        NO_SIGN => None,
+        DIGIT => Some(sign(figure_in(word), at + 1, NUM, opened)),
+        DIGIT_UNDER => Some(sign(figure_in(word), at + 1, UNDER, opened)),
+        CAPITAL_OF_MANY => Some(sign(capital_in(word), at + 1, WHOLE2, opened)),
+        LOWER_DIGIT => Some(sign(lower_in(word), at + 1, LOW, opened)),
+        DENOMINATOR => Some(Step {
+            lead: Some(BAR),
             point: figure_in(word),
             next: at + 1,
             mode: UNDER,
             opened,
-        },
-        MASCULINE_MARK => Step::Sign {
-            lead: FULL_STOP,
+        }),
+        MASCULINE_MARK => Some(Step {
+            lead: Some(FULL_STOP),
             point: MASCULINE,
             next: at + 1,
             mode: FREE,
             opened,
-        },
+        }),
         _ => asked(row, at, word, mode, deed, opened),
     }
 }
@@ -433,68 +431,57 @@ fn home_of(mode: usize) -> usize
 }
 
 // A quick reading of a point or a comma behind a digit of a number: "any single full stop or comma that stands directly between two digits", so a digit has to
-// follow. Where none does, or where the cell is no such point, it says nothing.
-fn point_inside(row: &[u8], at: usize, point: u32, opened: usize) -> Step
-    requires { (length row.now ≤ longest_row) × (at < length row.now) × (point ≡ run_point (word_of (cell_of row.now at)) between) }
+// follow. Where none does it says nothing.
+fn point_inside(row: &[u8], at: usize, point: u32, opened: usize) -> Option<Step>
+    requires { (length row.now ≤ longest_row) × (at < length row.now) × (Some point ≡ shown (run_point (word_of (cell_of row.now at)) between)) }
     ensures { Quick row.now at num mid opened result }
 {
-    if point == NO_POINT {
-        return Step::Nothing;
+    if is_digit(cell_at(row, at + 1)) {
+        return Some(sign(point, at + 1, MID, opened));
     }
-    let follows = cell_at(row, at + 1);
-    if is_digit(follows) {
-        return sign(point, at + 1, MID, opened);
-    }
-    Step::Nothing
+    None
 }
 
 // A quick reading of a cell of the run that the mode is in: a digit or a letter, or a point inside a number.
-pub fn run_at(row: &[u8], at: usize, run: usize, mode: usize, opened: usize) -> Step
+pub fn run_at(row: &[u8], at: usize, run: usize, mode: usize, opened: usize) -> Option<Step>
     requires { (length row.now ≤ longest_row) × (at < length row.now) × (mode < mode_count) × (run ≡ run_of mode) × (run < no_run) }
     ensures { InRun row.now at mode opened result }
 {
     let cell = row[at];
     if LAST_CELL < cell {
-        return Step::Nothing;
+        return None;
     }
     let word = cells::run_word(cell);
-    let point = field_in(word, run);
-    if point != NO_POINT {
-        return sign(point, at + 1, home_of(mode), opened);
+    if let Some(point) = field_in(word, run) {
+        return Some(sign(point, at + 1, home_of(mode), opened));
     }
     if mode == NUM {
-        return point_inside(row, at, field_in(word, BETWEEN), opened);
+        return point_inside(row, at, field_in(word, BETWEEN)?, opened);
     }
-    Step::Nothing
+    None
 }
 
 // A quick reading of U+2014 behind another.
-pub fn dash_at(row: &[u8], at: usize, opened: usize) -> Step
+pub fn dash_at(row: &[u8], at: usize, opened: usize) -> Option<Step>
     requires { (length row.now ≤ longest_row) × (at < length row.now) }
     ensures { Quick row.now at dash dash opened result }
 {
-    if cell_at(row, at) != D36 {
-        return Step::Nothing;
+    if cell_at(row, at) == D36 && cell_at(row, at + 1) == D36 {
+        return Some(sign(THE_DASH, at + 2, DASH, opened));
     }
-    if cell_at(row, at + 1) != D36 {
-        return Step::Nothing;
-    }
-    sign(THE_DASH, at + 2, DASH, opened)
+    None
 }
 
 // A quick reading of a capital with its 46 behind another.
-pub fn owed_at(row: &[u8], at: usize, opened: usize) -> Step
+pub fn owed_at(row: &[u8], at: usize, opened: usize) -> Option<Step>
     requires { (length row.now ≤ longest_row) × (at < length row.now) }
     ensures { Quick row.now at owing owing opened result }
 {
     if row[at] != D46 {
-        return Step::Nothing;
+        return None;
     }
-    let letter = cells::capital_owed(byte_at(row, at + 1));
-    if letter == NO_POINT {
-        return Step::Nothing;
-    }
-    sign(letter, at + 2, OWING, opened)
+    let letter = shown(cells::capital_owed(byte_at(row, at + 1)))?;
+    Some(sign(letter, at + 2, OWING, opened))
 }
 
 // May a text end in this mode: is what was begun whole?
