@@ -63,15 +63,22 @@ pub enum Mode {
 }
 
 impl Mode {
+    // Its number, as the fields of words have it. (The way back: `mode_at`.)
+    pub fn number(self) -> usize
+        ensures { result ≡ number_of self }
+    {
+        self as usize
+    }
+
     // May more signs of the sort that left it follow, to be read at once?
     pub fn goes_on(self) -> bool
         ensures { result ≡ leb owing (number_of self) }
     {
-        Mode::Owing as usize <= self as usize
+        Mode::Owing.number() <= self.number()
     }
 }
 
-// The mode with a number, as the fields of words have it.
+// The mode that has a number.
 pub fn mode_at(number: usize) -> Mode
     ensures { result ≡ mode_at number }
 {
@@ -265,7 +272,7 @@ pub fn then_in(word: u64) -> Mode
 pub fn deed_of(mode: Mode, class: usize) -> Deed
     ensures { deed_number result ≡ deed_of (number_of mode) class }
 {
-    table::deed_at(mode as usize % MODE_PLACES * TABLE_ROW + class % TABLE_ROW)
+    table::deed_at(mode.number() % MODE_PLACES * TABLE_ROW + class % TABLE_ROW)
 }
 
 // The opener and the closer of a kind; the kinds have the numbers of the rules (crates/rules/specs/Pairs.antt). (A kind is below 8, so that the remainder is the

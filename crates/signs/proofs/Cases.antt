@@ -18,7 +18,10 @@ use Rattle.entries.specs.Chosen.{choose}
 use Rattle.entries.proofs.Keys.{among, Rest, keys_of, chosen_rest, rest_none}
 use Rattle.pairs.specs.Opened.{is_open}
 use Rattle.readings.specs.Modes as mode
-use Rattle.readings.specs.Modes.{mode_of, mode_count}
+use Rattle.readings.specs.Modes.{mode_of, mode_count, number_of}
+use Rattle.readings.specs.declared.Mode.{Mode}
+use Rattle.readings.specs.declared.Mode.TheVariants as a
+use Rattle.readings.proofs.Numbers.{number_back}
 use Rattle.readings.specs.Acts as act
 use Rattle.readings.specs.Deeds.{deeds}
 use Rattle.readings.specs.Fields.{deed_of, class_in, point_in, capital_in, figure_in, lower_in, letter_in, inside_in, kind_in, then_in, usual_in, run_point, no_cell, cell_of}
@@ -37,6 +40,38 @@ use Rattle.readings.proofs.Turning.{sight_small}
 -- A STEP that gives a sign
 abbrev pub gives : ℕ → ℕ → ℕ → ℕ → ℕ → Option Step
 gives lead point next mode opened = Some (a_step lead point next mode opened)
+
+-- what a look-up shows says what its field is
+pub none_shown : (n : ℕ) → shown n ≡ None → n ≡ no_point
+none_shown n e = go (eqb n no_point) refl e
+  where
+    go : (b : Bool) → eqb n no_point ≡ b → ◌≡◌ {A = Option ℕ} (cond b None (Some n)) None → n ≡ no_point
+    go true f e = eqb→eq n no_point (subst T (sym f) tt)
+    go false f e = let z : ◌≡◌ {A = ℕ} 0 1 = cc in absurd (omega (arith, z))
+
+pub some_shown : (n p : ℕ) → shown n ≡ Some p → (p ≡ n) × (p ≡ no_point → ⊥)
+some_shown n p e = go (eqb n no_point) refl e
+  where
+    go : (b : Bool) → eqb n no_point ≡ b → cond b None (Some n) ≡ Some p → (p ≡ n) × (p ≡ no_point → ⊥)
+    go true f e = let z : ◌≡◌ {A = ℕ} 0 1 = cc in absurd (omega (arith, z))
+    go false f e = let z : p ≡ n = cc in (z, λ q. true≢false (sym (eq-eqb n no_point (sym z ∙ q)) ∙ f))
+
+-- the mode after a capital, where there is one
+pub none_after : (m : ℕ) → cond (eqb m mode.free) None (Some (mode.mode_at m)) ≡ None → m ≡ mode.free
+none_after m e = go (eqb m mode.free) refl e
+  where
+    go : (b : Bool) → eqb m mode.free ≡ b → ◌≡◌ {A = Option Mode} (cond b None (Some (mode.mode_at m))) None → m ≡ mode.free
+    go true f e = eqb→eq m mode.free (subst T (sym f) tt)
+    go false f e = let z : ◌≡◌ {A = ℕ} 0 1 = cc in absurd (omega (arith, z))
+
+pub some_after : (m : ℕ) (a : Mode) → m < mode_count → cond (eqb m mode.free) None (Some (mode.mode_at m)) ≡ Some a → (number_of a ≡ m) × (m ≡ mode.free → ⊥)
+some_after m a l e = go (eqb m mode.free) refl e
+  where
+    go : (b : Bool) → eqb m mode.free ≡ b → cond b None (Some (mode.mode_at m)) ≡ Some a → (number_of a ≡ m) × (m ≡ mode.free → ⊥)
+    go true f e = let z : ◌≡◌ {A = ℕ} 0 1 = cc in absurd (omega (arith, z))
+    go false f e =
+        let z : mode.mode_at m ≡ a = cc in
+        (ap number_of (sym z) ∙ number_back m l, λ q. true≢false (sym (eq-eqb m mode.free q) ∙ f))
 
 -- THE CELL AT A PLACE
 inside_any : (r : Row) (n : ℕ) (a b : ℕ) → n < length r → get_or r n a ≡ get_or r n b
@@ -154,7 +189,7 @@ unfolding words
 inside_lowered c n =
     eqb→eq (inside_in (word_of (c / 2))) (lower_in (word_of c)) (has_field lower_in refl (λ c. eqb (inside_in (word_of (c / 2))) (lower_in (word_of c))) tt c n)
 
-digit_letter : (c : ℕ) → digit_cell c ≡ true → letter_in (word_of c) ≡ point_in (word_of c)
+pub digit_letter : (c : ℕ) → digit_cell c ≡ true → letter_in (word_of c) ≡ point_in (word_of c)
 unfolding words
 digit_letter c n = eqb→eq (letter_in (word_of c)) (point_in (word_of c)) (has_field figure_in refl (λ c. eqb (letter_in (word_of c)) (point_in (word_of c))) tt c n)
 
@@ -191,14 +226,65 @@ packed (m ∷ ms) = m + 16 * packed ms
 abbrev pub after_capitals : ℕ
 after_capitals = packed capital_modes
 
-afters_right : T (below (λ n. eqb (after_capitals / 2 ^ (n * 4) % 16) (get_or capital_modes n mode.free)) mode_count)
-afters_right = tt
-
-pub after_told : (m : ℕ) → after_capitals / 2 ^ (m % 16 * 4) % 16 ≡ after_capital m
+pub after_told : (m : Mode) → after_capitals / 2 ^ (number_of m * 4) % 16 ≡ after_capital (number_of m)
 unfolding after_capital
-after_told m =
-    eqb→eq (after_capitals / 2 ^ (m % 16 * 4) % 16) (get_or capital_modes (m % 16) mode.free)
-    (at_below (λ n. eqb (after_capitals / 2 ^ (n * 4) % 16) (get_or capital_modes n mode.free)) mode_count afters_right (m % 16) (omega arith))
+after_told a.Free = refl
+after_told a.Lone = refl
+after_told a.Mixed = refl
+after_told a.Whole1 = refl
+after_told a.Under1 = refl
+after_told a.End = refl
+after_told a.Hyphen = refl
+after_told a.Fem = refl
+after_told a.Percent = refl
+after_told a.Owing = refl
+after_told a.Dash = refl
+after_told a.Whole2 = refl
+after_told a.Num = refl
+after_told a.Low = refl
+after_told a.Under = refl
+after_told a.Mid = refl
+
+pub after_small : (m : Mode) → after_capital (number_of m) < mode_count
+unfolding after_capital
+after_small a.Free = omega arith
+after_small a.Lone = omega arith
+after_small a.Mixed = omega arith
+after_small a.Whole1 = omega arith
+after_small a.Under1 = omega arith
+after_small a.End = omega arith
+after_small a.Hyphen = omega arith
+after_small a.Fem = omega arith
+after_small a.Percent = omega arith
+after_small a.Owing = omega arith
+after_small a.Dash = omega arith
+after_small a.Whole2 = omega arith
+after_small a.Num = omega arith
+after_small a.Low = omega arith
+after_small a.Under = omega arith
+after_small a.Mid = omega arith
+
+-- as an option of a mode
+abbrev pub some_mode : ℕ → Option Mode
+some_mode n = cond (eqb n mode.free) None (Some (mode.mode_at n))
+
+pub mode_given : (m : Mode) → (m ≡ a.Free → ⊥) → Some m ≡ some_mode (number_of m)
+mode_given a.Free n = absurd (n refl)
+mode_given a.Lone n = refl
+mode_given a.Mixed n = refl
+mode_given a.Whole1 n = refl
+mode_given a.Under1 n = refl
+mode_given a.End n = refl
+mode_given a.Hyphen n = refl
+mode_given a.Fem n = refl
+mode_given a.Percent n = refl
+mode_given a.Owing n = refl
+mode_given a.Dash n = refl
+mode_given a.Whole2 n = refl
+mode_given a.Num n = refl
+mode_given a.Low n = refl
+mode_given a.Under n = refl
+mode_given a.Mid n = refl
 
 module _ (at o m y z : ℕ) where
   module _ (a : y ≡ dots 46) (f : ℕ) (e : f ≡ capital_in (word_of z)) where
@@ -269,8 +355,8 @@ module _ (at o d w y z : ℕ) where
     pub is_percent : p ≡ code "%" → (s : Option Step) → s ≡ step_of at o (percent_by z) → s ≡ step_of at o (prefix_by d w y z)
     is_percent q s h = h ∙ sym (rw q) ∙ by_two
 
-    pub is_quote : p ≡ code "‘" → (s : Option Step) → s ≡ mark_step (at + 2) o inner_quotes → s ≡ step_of at o (prefix_by d w y z)
-    is_quote q s h = h ∙ sym (rw q) ∙ by_two
+    pub is_quote : p ≡ code "‘" → (s : Step) → s ≡ mark_step (at + 2) o inner_quotes → Some s ≡ step_of at o (prefix_by d w y z)
+    is_quote q s h = ap Some h ∙ sym (rw q) ∙ by_two
 
     pub two_sign : Rest Unit (keys_of (two_list z)) p → gives no_point p (at + 2) mode.free o ≡ step_of at o (prefix_by d w y z)
     two_sign r = sym (ap (step_of at o) (chosen_rest (two_list z) p (one p 2 mode.free) r)) ∙ by_two
@@ -339,6 +425,10 @@ module _ (row : Row) (at m o w : ℕ) (e : w ≡ word_of (cell_of row at)) where
         ∙ ap (λ (n : ℕ). step_of at o (choose (once_list w) n (asked_by m n w (cell_of row (at + 1)) (cell_of row (at + 2))))) told
         ∙ sym (rw u) ∙ by_word_lem
 
+    -- the step, as the table tells it
+    pub told_by : step_of at o (choose (once_list w) d (asked_by m d w (cell_of row (at + 1)) (cell_of row (at + 2)))) ≡ step_at row at m o
+    told_by = by_deed (choose (once_list w) d (asked_by m d w (cell_of row (at + 1)) (cell_of row (at + 2)))) refl
+
     pub told_none : d ≡ act.no_sign → None ≡ step_at row at m o
     told_none q = by_deed reading.nothing (rw q)
 
@@ -368,8 +458,8 @@ module _ (row : Row) (at m o w : ℕ) (e : w ≡ word_of (cell_of row at)) where
 
 -- what `usual` returns
 module _ (w at o : ℕ) where
-  pub usual_mark : point_in w ≡ no_point → (k : ℕ) → k ≡ kind_in w → mark_step (at + 1) o k ≡ step_of at o (usual_by w)
-  usual_mark e k h = ap (mark_step (at + 1) o) h ∙ sym (rw (eq-eqb (point_in w) no_point e))
+  pub usual_mark : point_in w ≡ no_point → (k : ℕ) → k ≡ kind_in w → Some (mark_step (at + 1) o k) ≡ step_of at o (usual_by w)
+  usual_mark e k h = ap (λ (k : ℕ). Some (mark_step (at + 1) o k)) h ∙ sym (rw (eq-eqb (point_in w) no_point e))
 
   pub usual_sign : (p t : ℕ) → p ≡ point_in w → t ≡ then_in w → (p ≡ no_point → ⊥) → gives no_point p (at + 1) t o ≡ step_of at o (usual_by w)
   usual_sign p t e f n = rw (ne_eqb (point_in w) no_point (λ q. n (e ∙ q)), e, f)

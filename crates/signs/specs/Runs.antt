@@ -37,6 +37,10 @@ runs =
 unfoldable pub run_of : ℕ → ℕ
 run_of m = choose runs m no_run
 
+-- the field of a run, where there is one
+abbrev pub field_of : ℕ → Option ℕ
+field_of run = cond (eqb run no_run) None (Some run)
+
 -- the mode that a digit or a letter of its run leaves: the mode itself, and behind a point inside a number that of the number
 unfoldable pub home_of : ℕ → ℕ
 home_of m = cond (eqb m mode.mid) mode.num m
