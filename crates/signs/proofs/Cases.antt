@@ -12,16 +12,12 @@ use lib.ListN.{length, get_or, get_or-eq_default}
 use borrow.Author.Tests.{eq-eqb, ne_eqb, le-leb, lt-leb, leb-true, not-true}
 use Rattle.rules.specs.Cells.{Row, dots, last_cell}
 use Rattle.rules.specs.Pairs.{kinds}
-use Rattle.rules.proofs.Finite.{below, at_below, beq_same, and_false, le_or_lt, implies}
-use Rattle.rules.proofs.Machine.{at_rest}
+use Rattle.rules.proofs.Finite.{below, at_below, beq_same, le_or_lt, implies}
 use Rattle.entries.specs.Chosen.{choose}
-use Rattle.entries.proofs.Keys.{among, Rest, keys_of, chosen_rest, rest_none}
-use Rattle.pairs.specs.Opened.{is_open}
 use Rattle.readings.specs.Modes as mode
 use Rattle.readings.specs.Modes.{mode_of, mode_count, number_of}
 use Rattle.readings.specs.declared.Mode.{Mode}
 use Rattle.readings.specs.declared.Mode.TheVariants as a
-use Rattle.readings.proofs.Numbers.{number_back}
 use Rattle.readings.specs.Acts as act
 use Rattle.readings.specs.Deeds.{deeds}
 use Rattle.readings.specs.Fields.{deed_of, class_in, point_in, capital_in, figure_in, lower_in, letter_in, inside_in, kind_in, then_in, usual_in, run_point, no_cell, cell_of}
@@ -55,23 +51,6 @@ some_shown n p e = go (eqb n no_point) refl e
     go : (b : Bool) → eqb n no_point ≡ b → cond b None (Some n) ≡ Some p → (p ≡ n) × (p ≡ no_point → ⊥)
     go true f e = let z : ◌≡◌ {A = ℕ} 0 1 = cc in absurd (omega (arith, z))
     go false f e = let z : p ≡ n = cc in (z, λ q. true≢false (sym (eq-eqb n no_point (sym z ∙ q)) ∙ f))
-
--- the mode after a capital, where there is one
-pub none_after : (m : ℕ) → cond (eqb m mode.free) None (Some (mode.mode_at m)) ≡ None → m ≡ mode.free
-none_after m e = go (eqb m mode.free) refl e
-  where
-    go : (b : Bool) → eqb m mode.free ≡ b → ◌≡◌ {A = Option Mode} (cond b None (Some (mode.mode_at m))) None → m ≡ mode.free
-    go true f e = eqb→eq m mode.free (subst T (sym f) tt)
-    go false f e = let z : ◌≡◌ {A = ℕ} 0 1 = cc in absurd (omega (arith, z))
-
-pub some_after : (m : ℕ) (a : Mode) → m < mode_count → cond (eqb m mode.free) None (Some (mode.mode_at m)) ≡ Some a → (number_of a ≡ m) × (m ≡ mode.free → ⊥)
-some_after m a l e = go (eqb m mode.free) refl e
-  where
-    go : (b : Bool) → eqb m mode.free ≡ b → cond b None (Some (mode.mode_at m)) ≡ Some a → (number_of a ≡ m) × (m ≡ mode.free → ⊥)
-    go true f e = let z : ◌≡◌ {A = ℕ} 0 1 = cc in absurd (omega (arith, z))
-    go false f e =
-        let z : mode.mode_at m ≡ a = cc in
-        (ap number_of (sym z) ∙ number_back m l, λ q. true≢false (sym (eq-eqb m mode.free q) ∙ f))
 
 -- THE CELL AT A PLACE
 inside_any : (r : Row) (n : ℕ) (a b : ℕ) → n < length r → get_or r n a ≡ get_or r n b
@@ -115,29 +94,6 @@ module _ (r : Row) (n : ℕ) where
       ⊎_elim (λ h. ap (λ (b : Bool). word_of (cond b (get_or r n no_cell) no_cell)) (sym (le-leb (get_or r n no_cell) last_cell h)))
       (λ h. get_or-eq_default words 0 {n = get_or r n no_cell} h ∙ ap (λ (b : Bool). word_of (cond b (get_or r n no_cell) no_cell)) (sym (lt-leb (get_or r n no_cell) last_cell h)))
       (le_or_lt (get_or r n no_cell) last_cell)
-
--- THE MODES AT REST
-abbrev pub owes : List ℕ
-owes = mode.owing ∷ mode.whole1 ∷ mode.low ∷ mode.under1 ∷ mode.mid ∷ []
-
-rests_right : T (below (λ m. among owes m || at_rest (mode_of m)) mode_count)
-unfolding at_rest
-rests_right = tt
-
-pub at_rest_there : (m : ℕ) → m < mode_count → Rest Unit owes m → true ≡ at_rest (mode_of m)
-at_rest_there m l r = go (among owes m) (rest_none Unit owes m r).1 (at_below (λ m. among owes m || at_rest (mode_of m)) mode_count rests_right m l)
-  where
-    go : (b : Bool) → b ≡ false → T (b || at_rest (mode_of m)) → true ≡ at_rest (mode_of m)
-    go true e t = absurd (subst T e tt)
-    go false e t = sym (is_true (at_rest (mode_of m)) t)
-
--- A MARK
-module _ (next o k p : ℕ) where
-  pub closes_it : is_open o k ≡ true → p ≡ closer_of k → (u : ℕ) → gives no_point p next mode.free u ≡ gives no_point (cond (is_open o k) (closer_of k) (opener_of k)) next mode.free u
-  closes_it e q u = rw (e, q)
-
-  pub opens_it : is_open o k ≡ false → p ≡ opener_of k → (u : ℕ) → gives no_point p next mode.free u ≡ gives no_point (cond (is_open o k) (closer_of k) (opener_of k)) next mode.free u
-  opens_it e q u = rw (e, q)
 
 -- WHAT A CELL IS AMONG: a byte that is none is among nothing
 module _ (these c : ℕ) where
@@ -192,31 +148,6 @@ inside_lowered c n =
 pub digit_letter : (c : ℕ) → digit_cell c ≡ true → letter_in (word_of c) ≡ point_in (word_of c)
 unfolding words
 digit_letter c n = eqb→eq (letter_in (word_of c)) (point_in (word_of c)) (has_field figure_in refl (λ c. eqb (letter_in (word_of c)) (point_in (word_of c))) tt c n)
-
--- AFTER 3456, of the word of the second cell
-module _ (at o w : ℕ) where
-  pub number_figure : not (eqb (figure_in w) no_point) ≡ true → (f : ℕ) → f ≡ figure_in w → gives no_point f (at + 2) mode.num o ≡ step_of at o (number_by w)
-  unfolding number_by
-  number_figure n f e = rw (ne_eqb (figure_in w) no_point (has_some (figure_in w) n), e)
-
-  module _ (z : not (eqb (figure_in w) no_point) ≡ false) where
-    pub number_lower : not (eqb (lower_in w) no_point) ≡ true → (l : ℕ) → l ≡ lower_in w → gives no_point l (at + 2) mode.low o ≡ step_of at o (number_by w)
-    unfolding number_by
-    number_lower n l g = rw (eq-eqb (figure_in w) no_point (has_none (figure_in w) z), ne_eqb (lower_in w) no_point (has_some (lower_in w) n), g)
-
-    pub number_none : not (eqb (lower_in w) no_point) ≡ false → None ≡ step_of at o (number_by w)
-    unfolding number_by
-    number_none n = rw (eq-eqb (figure_in w) no_point (has_none (figure_in w) z), eq-eqb (lower_in w) no_point (has_none (lower_in w) n))
-
--- AFTER 456-356
-module _ (at o z : ℕ) where
-  pub per_mille : z ≡ dots 356 → gives no_point (code "‰") (at + 3) mode.free o ≡ step_of at o (percent_by z)
-  unfolding percent_by
-  per_mille e = rw (eq-eqb z (dots 356) e)
-
-  pub percent_alone : (z ≡ dots 356 → ⊥) → gives no_point (code "%") (at + 2) mode.percent o ≡ step_of at o (percent_by z)
-  unfolding percent_by
-  percent_alone n = rw (ne_eqb z (dots 356) n)
 
 -- AFTER 46: the mode after a capital, by the mode before it, is what the code's number has, four bits for each
 abbrev packed : List ℕ → ℕ
@@ -286,126 +217,11 @@ mode_given a.Low n = refl
 mode_given a.Under n = refl
 mode_given a.Mid n = refl
 
-module _ (at o m y z : ℕ) where
-  module _ (a : y ≡ dots 46) (f : ℕ) (e : f ≡ capital_in (word_of z)) where
-    pub run_none : f ≡ no_point → None ≡ step_of at o (capital_by m y z)
-    unfolding capital_by
-    run_none n = rw (eq-eqb y (dots 46) a, eq-eqb (capital_in (word_of z)) no_point (sym e ∙ n))
-
-    pub run_first : (f ≡ no_point → ⊥) → after_capital m ≡ mode.lone → gives no_point f (at + 3) mode.whole1 o ≡ step_of at o (capital_by m y z)
-    unfolding capital_by
-    run_first n q = rw (eq-eqb y (dots 46) a, ne_eqb (capital_in (word_of z)) no_point (λ h. n (e ∙ h)), eq-eqb (after_capital m) mode.lone q, e)
-
-    pub run_barred : (f ≡ no_point → ⊥) → (after_capital m ≡ mode.lone → ⊥) → None ≡ step_of at o (capital_by m y z)
-    unfolding capital_by
-    run_barred n q = rw (eq-eqb y (dots 46) a, ne_eqb (capital_in (word_of z)) no_point (λ h. n (e ∙ h)), ne_eqb (after_capital m) mode.lone q)
-
-  module _ (a : y ≡ dots 46 → ⊥) where
-    module _ (b : y ≡ dots 2) where
-      pub greater_owed : m ≡ mode.owing → None ≡ step_of at o (capital_by m y z)
-      unfolding capital_by
-      greater_owed q = rw (ne_eqb y (dots 46) a, eq-eqb y (dots 2) b, eq-eqb m mode.owing q)
-
-      pub greater : (m ≡ mode.owing → ⊥) → gives no_point (code ">") (at + 2) mode.free o ≡ step_of at o (capital_by m y z)
-      unfolding capital_by
-      greater q = rw (ne_eqb y (dots 46) a, eq-eqb y (dots 2) b, ne_eqb m mode.owing q)
-
-    module _ (b : y ≡ dots 2 → ⊥) (f : ℕ) (e : f ≡ capital_in (word_of y)) where
-      pub letter_none : f ≡ no_point → None ≡ step_of at o (capital_by m y z)
-      unfolding capital_by
-      letter_none n = rw (ne_eqb y (dots 46) a, ne_eqb y (dots 2) b, eq-eqb (capital_in (word_of y)) no_point (sym e ∙ n))
-
-      module _ (n : f ≡ no_point → ⊥) where
-        pub letter_barred : after_capital m ≡ mode.free → None ≡ step_of at o (capital_by m y z)
-        unfolding capital_by
-        letter_barred q =
-            rw (ne_eqb y (dots 46) a, ne_eqb y (dots 2) b, ne_eqb (capital_in (word_of y)) no_point (λ h. n (e ∙ h)), eq-eqb (after_capital m) mode.free q)
-
-        pub letter_stands : (after_capital m ≡ mode.free → ⊥) → gives no_point f (at + 2) (after_capital m) o ≡ step_of at o (capital_by m y z)
-        unfolding capital_by
-        letter_stands q =
-            rw (ne_eqb y (dots 46) a, ne_eqb y (dots 2) b, ne_eqb (capital_in (word_of y)) no_point (λ h. n (e ∙ h)), ne_eqb (after_capital m) mode.free q, e)
-
--- A LONGER SIGN, w being the word of its first cell
-module _ (at o d w y z : ℕ) where
-  pub separated_letter_lem : d ≡ act.separates → digit_cell y ≡ true → (p : ℕ) → p ≡ letter_in (word_of y)
-      → gives no_point p (at + 2) mode.mixed o ≡ step_of at o (prefix_by d w y z)
-  unfolding prefix_by
-  separated_letter_lem q t p h = ap (λ (n : ℕ). gives no_point n (at + 2) mode.mixed o) (h ∙ digit_letter y t) ∙ sym (rw (eq-eqb d act.separates q, t))
-
-  -- what is known once it is no separated letter
-  abbrev pub Longer : Type 0
-  Longer = (eqb d act.separates && digit_cell y) ≡ false
-
-  pub no_digit : digit_cell y ≡ false → Longer
-  no_digit t = ap (λ (b : Bool). eqb d act.separates && b) t ∙ and_false (eqb d act.separates)
-
-  pub no_separator : (d ≡ act.separates → ⊥) → Longer
-  no_separator n = rw (ne_eqb d act.separates n)
-
-  -- by the sign of two cells that the look-up gives
-  module _ (l : Longer) (p : ℕ) (e : p ≡ two_of w y) where
-    by_two : step_of at o (choose (two_list z) p (one p 2 mode.free)) ≡ step_of at o (prefix_by d w y z)
-    unfolding prefix_by longer_by
-    by_two = ap (λ (n : ℕ). step_of at o (choose (two_list z) n (one n 2 mode.free))) e ∙ sym (rw l)
-
-    pub two_none : p ≡ no_point → None ≡ step_of at o (prefix_by d w y z)
-    two_none q = sym (rw q) ∙ by_two
-
-    pub is_percent : p ≡ code "%" → (s : Option Step) → s ≡ step_of at o (percent_by z) → s ≡ step_of at o (prefix_by d w y z)
-    is_percent q s h = h ∙ sym (rw q) ∙ by_two
-
-    pub is_quote : p ≡ code "‘" → (s : Step) → s ≡ mark_step (at + 2) o inner_quotes → Some s ≡ step_of at o (prefix_by d w y z)
-    is_quote q s h = ap Some h ∙ sym (rw q) ∙ by_two
-
-    pub two_sign : Rest Unit (keys_of (two_list z)) p → gives no_point p (at + 2) mode.free o ≡ step_of at o (prefix_by d w y z)
-    two_sign r = sym (ap (step_of at o) (chosen_rest (two_list z) p (one p 2 mode.free) r)) ∙ by_two
-
 -- WHAT THE CELLS THAT FOLLOW DECIDE
 module _ (at o m d w y z : ℕ) where
   pub point_inside_lem : d ≡ act.point → digit_cell y ≡ true → (p : ℕ) → p ≡ point_in w → gives no_point p (at + 1) mode.mid o ≡ step_of at o (asked_by m d w y z)
   unfolding asked_by
   point_inside_lem q e p h = rw (q, e, h)
-
-  pub point_ends : d ≡ act.point → digit_cell y ≡ false → (p : ℕ) → p ≡ point_in w → gives no_point p (at + 1) mode.end o ≡ step_of at o (asked_by m d w y z)
-  unfolding asked_by
-  point_ends q e p h = rw (q, e, h)
-
-  pub one_under_lem : d ≡ act.one_or_feminine → digit_cell y ≡ true → gives (code "⁄") (code "1") (at + 1) mode.under1 o ≡ step_of at o (asked_by m d w y z)
-  unfolding asked_by
-  one_under_lem q e = rw (q, e)
-
-  pub feminine_mark_lem : d ≡ act.one_or_feminine → digit_cell y ≡ false → gives (code ".") (code "ª") (at + 1) mode.fem o ≡ step_of at o (asked_by m d w y z)
-  unfolding asked_by
-  feminine_mark_lem q e = rw (q, e)
-
-  pub dash_here : d ≡ act.hyphen_or_dash → y ≡ dots 36 → gives no_point (code "—") (at + 2) mode.dash o ≡ step_of at o (asked_by m d w y z)
-  unfolding asked_by
-  dash_here q e = rw (q, eq-eqb y (dots 36) e)
-
-  pub hyphen_here : d ≡ act.hyphen_or_dash → (y ≡ dots 36 → ⊥) → gives no_point (code "-") (at + 1) mode.hyphen o ≡ step_of at o (asked_by m d w y z)
-  unfolding asked_by
-  hyphen_here q e = rw (q, ne_eqb y (dots 36) e)
-
-  pub dash_again : d ≡ act.dash_only → y ≡ dots 36 → gives no_point (code "—") (at + 2) mode.dash o ≡ step_of at o (asked_by m d w y z)
-  unfolding asked_by
-  dash_again q e = rw (q, eq-eqb y (dots 36) e)
-
-  pub half_dash : d ≡ act.dash_only → (y ≡ dots 36 → ⊥) → None ≡ step_of at o (asked_by m d w y z)
-  unfolding asked_by
-  half_dash q e = rw (q, ne_eqb y (dots 36) e)
-
-  pub number_here : d ≡ act.number_sign → (s : Option Step) → s ≡ step_of at o (number_by (word_of y)) → s ≡ step_of at o (asked_by m d w y z)
-  unfolding asked_by
-  number_here q s e = e ∙ sym (rw q)
-
-  pub capital_here : d ≡ act.capital → (s : Option Step) → s ≡ step_of at o (capital_by m y z) → s ≡ step_of at o (asked_by m d w y z)
-  unfolding asked_by
-  capital_here q s e = e ∙ sym (rw q)
-
-  pub longer_here : Rest Unit (keys_of (ask_list m w y z)) d → (s : Option Step) → s ≡ step_of at o (prefix_by d w y z) → s ≡ step_of at o (asked_by m d w y z)
-  unfolding asked_by
-  longer_here r s e = e ∙ sym (ap (step_of at o) (chosen_rest (ask_list m w y z) d (prefix_by d w y z) r))
 
 -- THE STEP AT A PLACE, w being the word of the cell there
 module _ (row : Row) (at m o w : ℕ) (e : w ≡ word_of (cell_of row at)) where
@@ -450,17 +266,8 @@ module _ (row : Row) (at m o w : ℕ) (e : w ≡ word_of (cell_of row at)) where
     pub told_masculine : d ≡ act.masculine_mark → gives (code ".") (code "º") (at + 1) mode.free o ≡ step_at row at m o
     told_masculine q = by_deed (reads (code ".") (code "º") 1 mode.free) (rw q)
 
-    pub told_question : Rest Unit (keys_of (once_list w)) d → (s : Option Step)
-        → s ≡ step_of at o (asked_by m d w (cell_of row (at + 1)) (cell_of row (at + 2))) → s ≡ step_at row at m o
-    told_question r s h =
-        h ∙ by_deed (asked_by m d w (cell_of row (at + 1)) (cell_of row (at + 2)))
-        (chosen_rest (once_list w) d (asked_by m d w (cell_of row (at + 1)) (cell_of row (at + 2))) r)
-
 -- what `usual` returns
 module _ (w at o : ℕ) where
-  pub usual_mark : point_in w ≡ no_point → (k : ℕ) → k ≡ kind_in w → Some (mark_step (at + 1) o k) ≡ step_of at o (usual_by w)
-  usual_mark e k h = ap (λ (k : ℕ). Some (mark_step (at + 1) o k)) h ∙ sym (rw (eq-eqb (point_in w) no_point e))
-
   pub usual_sign : (p t : ℕ) → p ≡ point_in w → t ≡ then_in w → (p ≡ no_point → ⊥) → gives no_point p (at + 1) t o ≡ step_of at o (usual_by w)
   usual_sign p t e f n = rw (ne_eqb (point_in w) no_point (λ q. n (e ∙ q)), e, f)
 

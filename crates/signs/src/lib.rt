@@ -162,20 +162,12 @@ fn mark(kind: usize, next: usize, opened: usize) -> Step
     requires { (kind < kinds) × (opened < open_states) }
     ensures { result ≡ mark_step next opened kind }
 {
-    if pairs::is_open(opened, kind) {
-        return sign(
-            closer_of(kind),
-            next,
-            Mode::Free,
-            pairs::turned(opened, kind),
-        );
-    }
-    sign(
-        opener_of(kind),
-        next,
-        Mode::Free,
-        pairs::turned(opened, kind),
-    )
+    let point = if pairs::is_open(opened, kind) {
+        closer_of(kind)
+    } else {
+        opener_of(kind)
+    };
+    sign(point, next, Mode::Free, pairs::turned(opened, kind))
 }
 
 // Is the cell one of these? (To compare what a look-up gives with NO_POINT would be compiled to a jump for each cell.)
