@@ -319,10 +319,9 @@ fn asked(row: &[u8], at: usize, word: u64, mode: Mode, deed: Deed, opened: usize
     requires { (length row.now ≤ longest_row) × (at < length row.now) × (opened < open_states) }
     ensures { result ≡ step_of at opened (asked_by (number_of mode) (deed_number deed) word (cell_of row.now (at + 1)) (cell_of row.now (at + 2))) }
 {
-    let second = cell_at(row, at + 1);
     match deed {
         Deed::Point => {
-            let mode_after = if is_digit(second) {
+            let mode_after = if is_digit(cell_at(row, at + 1)) {
                 Mode::Mid
             } else {
                 Mode::End
@@ -330,7 +329,7 @@ fn asked(row: &[u8], at: usize, word: u64, mode: Mode, deed: Deed, opened: usize
             Some(sign(point_in(word), at + 1, mode_after, opened))
         }
         Deed::OneOrFeminine => {
-            if is_digit(second) {
+            if is_digit(cell_at(row, at + 1)) {
                 Some(Step {
                     lead: Some(BAR),
                     point: THE_ONE,
@@ -349,14 +348,14 @@ fn asked(row: &[u8], at: usize, word: u64, mode: Mode, deed: Deed, opened: usize
             }
         }
         Deed::HyphenOrDash => {
-            if second == D36 {
+            if cell_at(row, at + 1) == D36 {
                 Some(sign(THE_DASH, at + 2, Mode::Dash, opened))
             } else {
                 Some(sign(THE_HYPHEN, at + 1, Mode::Hyphen, opened))
             }
         }
         Deed::DashOnly => {
-            if second == D36 {
+            if cell_at(row, at + 1) == D36 {
                 Some(sign(THE_DASH, at + 2, Mode::Dash, opened))
             } else {
                 None
@@ -380,10 +379,10 @@ pub fn usual(word: u64, at: usize, opened: usize) -> Step
     requires { (at < longest_row) × (opened < open_states) × (point_in word ≡ no_point → kind_in word < kinds) }
     ensures { Some result ≡ step_of at opened (usual_by word) }
 {
-    let Some(point) = shown(point_in(word)) else {
-        return mark(kind_in(word), at + 1, opened);
-    };
-    sign(point, at + 1, then_in(word), opened)
+    match shown(point_in(word)) {
+        Some(point) => sign(point, at + 1, then_in(word), opened),
+        None => mark(kind_in(word), at + 1, opened),
+    }
 }
 
 // The sign that starts at a place of the row, where the cell there, whose word is at hand, is not read as usual.
