@@ -16,8 +16,7 @@ ghost use Rattle.walks.specs.Walks.{CellsFrom, AllCells, Goes};
 ghost use Rattle.reader.specs.Promise.{Read};
 ghost use Rattle.reader.specs.Passes.{FirstHigh, RefusesRow, Found, Settled, word_row, line_row};
 
-use readings::cells::point_of;
-use readings::{Mode, NO_POINT, shown};
+use readings::{Mode, NO_POINT, point_of};
 use signs::LAST_CELL;
 use walks::{NoText, Stand, walk, walk_row};
 
@@ -163,7 +162,7 @@ fn read_cell(row: &[u8], text: &mut [u32]) -> Result<usize, Refusal>
     requires { length row.now ≡ 1 }
     ensures { Read castilian row.now text.old result text.new }
 {
-    let Some(point) = shown(point_of(row[0])) else {
+    let Some(point) = point_of(row[0]) else {
         return Err(unread(row, 0));
     };
     if text.len() == 0 {

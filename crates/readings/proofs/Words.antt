@@ -44,6 +44,6 @@ pub one_left : (n k : ℕ) (ks : List ℕ) → T (below (λ x. among ks x || eqb
 one_left n k ks t x l r =
     eqb→eq x k (none_of_keys (among ks x) (eqb x k) (rest_none Unit ks x r).1 (at_below (λ x. among ks x || eqb x k) n t x l))
 
--- a table of the code has at each byte what a list has, if it is so of the bytes, one by one
-pub byte_told : (xs ys : List ℕ) → T (below (λ n. eqb (get_or xs n 0) (get_or ys n 0)) 256) → (n : ℕ) → n < 256 → get_or xs n 0 ≡ get_or ys n 0
-byte_told xs ys t n l = eqb→eq (get_or xs n 0) (get_or ys n 0) (at_below (λ n. eqb (get_or xs n 0) (get_or ys n 0)) 256 t n l)
+-- a table of the code has at each place what is said of it, if it is so of the places, one by one
+pub table_told : (xs : List ℕ) (f : ℕ → ℕ) (count : ℕ) → T (below (λ n. eqb (get_or xs n 0) (f n)) count) → (n : ℕ) → n < count → get_or xs n 0 ≡ f n
+table_told xs f count t n l = eqb→eq (get_or xs n 0) (f n) (at_below (λ n. eqb (get_or xs n 0) (f n)) count t n l)

@@ -9,6 +9,7 @@ ghost use Rattle.std.specs.Prelude.{◌≡◌, leb};
 ghost use Rattle.readings.specs.Modes.{owing, number_of, mode_at};
 ghost use Rattle.readings.specs.Acts.{deed_number};
 ghost use Rattle.readings.specs.Fields.{class_in, point_in, capital_in, figure_in, lower_in, kind_in, then_in, deed_of};
+ghost use Rattle.readings.specs.Words.{word_of};
 ghost use Rattle.readings.specs.Readings.{shown, opener_of, closer_of};
 
 pub mod cells;
@@ -219,6 +220,13 @@ pub fn shown(field: u32) -> Option<u32>
     if field == NO_POINT { None } else { Some(field) }
 }
 
+// What a byte is alone: a small letter or a sign, if it is one. (For a row of one cell.)
+pub fn point_of(cell: u8) -> Option<u32>
+    ensures { result ≡ shown (point_in (word_of cell)) }
+{
+    shown(point_in(cells::word_of(cell)))
+}
+
 // The class of a cell, by its word.
 pub fn class_in(word: u64) -> usize
     ensures { result ≡ class_in word }
@@ -275,34 +283,35 @@ pub fn deed_of(mode: Mode, class: usize) -> Deed
     table::deed_at(mode.number() % MODE_PLACES * TABLE_ROW + class % TABLE_ROW)
 }
 
-// The opener and the closer of a kind; the kinds have the numbers of the rules (crates/rules/specs/Pairs.antt). (A kind is below 8, so that the remainder is the
-// kind. Those that are none yet are named, so that the compiler makes a table of it and asks nothing first.)
+// The openers and the closers, by kind; the kinds have the numbers of the rules (crates/rules/specs/Pairs.antt), and those that are none yet have no mark.
+static OPENERS: [u32; MARK_PLACES] = [
+    0xbf, // ¿
+    0xa1, // ¡
+    0xab, // «
+    0x2018, // ‘
+    0xe000, // emphasis opens
+    NO_POINT, NO_POINT, NO_POINT,
+];
+
+static CLOSERS: [u32; MARK_PLACES] = [
+    0x3f, // ?
+    0x21, // !
+    0xbb, // »
+    0x2019, // ’
+    0xe001, // emphasis closes
+    NO_POINT, NO_POINT, NO_POINT,
+];
+
+// The opener of a kind. (A kind is below 8, so that the remainder is the kind.)
 pub fn opener_of(kind: usize) -> u32
     ensures { result ≡ opener_of kind }
 {
-    match kind % MARK_PLACES {
-        0 => 0xbf, // ¿
-        1 => 0xa1, // ¡
-        2 => 0xab, // «
-        INNER_QUOTES => 0x2018, // ‘
-        5 => NO_POINT,
-        6 => NO_POINT,
-        7 => NO_POINT,
-        _ => 0xe000, // emphasis opens
-    }
+    OPENERS[kind % MARK_PLACES]
 }
 
+// Its closer.
 pub fn closer_of(kind: usize) -> u32
     ensures { result ≡ closer_of kind }
 {
-    match kind % MARK_PLACES {
-        0 => 0x3f, // ?
-        1 => 0x21, // !
-        2 => 0xbb, // »
-        INNER_QUOTES => 0x2019, // ’
-        5 => NO_POINT,
-        6 => NO_POINT,
-        7 => NO_POINT,
-        _ => 0xe001, // emphasis closes
-    }
+    CLOSERS[kind % MARK_PLACES]
 }

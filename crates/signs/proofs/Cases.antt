@@ -20,7 +20,7 @@ use Rattle.readings.specs.declared.Mode.{Mode}
 use Rattle.readings.specs.declared.Mode.TheVariants as a
 use Rattle.readings.specs.Acts as act
 use Rattle.readings.specs.Deeds.{deeds}
-use Rattle.readings.specs.Fields.{deed_of, class_in, point_in, capital_in, figure_in, lower_in, letter_in, inside_in, kind_in, then_in, usual_in, run_point, no_cell, cell_of}
+use Rattle.readings.specs.Fields.{deed_of, class_in, point_in, capital_in, figure_in, lower_in, kind_in, then_in, usual_in, run_point, no_cell, cell_of}
 use Rattle.readings.specs.Words.{words, letters_alone, signs_alone, word_of}
 use Rattle.readings.specs.Readings.{no_point, shown, a_step, Reading, reads, one, usual_by, once_list, digit_cell, capital_modes, after_capital, capital_by, number_by, percent_by, inner_quotes, two_of, two_list, longer_by, prefix_by, ask_list, asked_by, reading_of, by_word, opener_of, closer_of, mark_step, step_of, step_at}
 use Rattle.readings.specs.Readings as reading
@@ -136,18 +136,10 @@ has_field g z f t c n =
     ⊎_elim (λ l. subst (λ (b : Bool). T (b || f c)) (not-true (eqb (g (word_of c)) no_point) n) (at_below (λ c. eqb (g (word_of c)) no_point || f c) no_cell t c l))
     (λ l. absurd (has_some (g (word_of c)) n (ap g (past_words c l) ∙ z))) (le_or_lt (suc c) no_cell)
 
--- a digit is what it is inside a number; a lower digit is the digit of half its cell; the cell of a digit is a letter
-pub inside_digit : (w : ℕ) → not (eqb (figure_in w) no_point) ≡ true → inside_in w ≡ figure_in w
-inside_digit w n = rw (not-true (eqb (figure_in w) no_point) n)
-
-pub inside_lowered : (c : ℕ) → lower_cell c ≡ true → inside_in (word_of (c / 2)) ≡ lower_in (word_of c)
+-- a lower digit is the digit of half its cell
+pub figure_lowered : (c : ℕ) → lower_cell c ≡ true → figure_in (word_of (c / 2)) ≡ lower_in (word_of c)
 unfolding words
-inside_lowered c n =
-    eqb→eq (inside_in (word_of (c / 2))) (lower_in (word_of c)) (has_field lower_in refl (λ c. eqb (inside_in (word_of (c / 2))) (lower_in (word_of c))) tt c n)
-
-pub digit_letter : (c : ℕ) → digit_cell c ≡ true → letter_in (word_of c) ≡ point_in (word_of c)
-unfolding words
-digit_letter c n = eqb→eq (letter_in (word_of c)) (point_in (word_of c)) (has_field figure_in refl (λ c. eqb (letter_in (word_of c)) (point_in (word_of c))) tt c n)
+figure_lowered c n = eqb→eq (figure_in (word_of (c / 2))) (lower_in (word_of c)) (has_field lower_in refl (λ c. eqb (figure_in (word_of (c / 2))) (lower_in (word_of c))) tt c n)
 
 -- AFTER 46: the mode after a capital, by the mode before it, is what the code's number has, four bits for each
 abbrev packed : List ℕ → ℕ

@@ -240,7 +240,7 @@ fn capital(row: &[u8], at: usize, mode: Mode, opened: usize) -> Option<Step>
         return Some(sign(GREATER, at + 2, Mode::Free, opened));
     }
     let letter_at = if second == D46 { at + 2 } else { at + 1 };
-    let letter = shown(cells::capital_of(cell_at(row, letter_at)))?;
+    let letter = shown(capital_in(word_of(cell_at(row, letter_at))))?;
     let after = after_capital(mode)?;
     if second != D46 {
         return Some(sign(letter, at + 2, after, opened));
@@ -253,18 +253,18 @@ fn capital(row: &[u8], at: usize, mode: Mode, opened: usize) -> Option<Step>
 
 // After 3456: a digit begins a number, a lower digit an ordinal or a fraction. (Both are looked up in one table, so that there is no jump for the
 // processor to foresee.)
-#[tactic(auto, using(crate::proofs::Cases::inside_digit, crate::proofs::Cases::inside_lowered), unfolding(readings::specs::Readings::number_by))]
+#[tactic(auto, using(crate::proofs::Cases::figure_lowered), unfolding(readings::specs::Readings::number_by))]
 fn number(row: &[u8], at: usize, opened: usize) -> Option<Step>
     requires { (length row.now ≤ longest_row) × (at < length row.now) }
     ensures { result ≡ step_of at opened (number_by (word_of (cell_of row.now (at + 1)))) }
 {
     let second = cell_at(row, at + 1);
     if is_digit(second) {
-        return Some(sign(cells::inside_number(second), at + 2, Mode::Num, opened));
+        return Some(sign(figure_in(word_of(second)), at + 2, Mode::Num, opened));
     }
     if is_lower(second) {
         return Some(sign(
-            cells::inside_number(second / LOWERED),
+            figure_in(word_of(second / LOWERED)),
             at + 2,
             Mode::Low,
             opened,
@@ -294,7 +294,7 @@ fn field_in(word: u64, at: usize) -> Option<u32>
 
 // A sign that begins with a cell that is none by itself and whose word is at hand. "A lower-case a to j directly after a number's last digit has cell 5 before it."
 // (Of ‘ and ’, which have the same cells, the look-up has the opener.)
-#[tactic(auto, using(crate::proofs::Cases::none_shown, crate::proofs::Cases::some_shown, crate::proofs::Cases::digit_letter), unfolding(readings::specs::Readings::prefix_by, readings::specs::Readings::longer_by, readings::specs::Readings::two_of))]
+#[tactic(auto, using(crate::proofs::Cases::none_shown, crate::proofs::Cases::some_shown), unfolding(readings::specs::Readings::prefix_by, readings::specs::Readings::longer_by, readings::specs::Readings::two_of))]
 fn prefixed(row: &[u8], at: usize, word: u64, deed: Deed, opened: usize) -> Option<Step>
     requires { (length row.now ≤ longest_row) × (at < length row.now) × (opened < open_states) }
     ensures { result ≡ step_of at opened (prefix_by (deed_number deed) word (cell_of row.now (at + 1)) (cell_of row.now (at + 2))) }
@@ -302,7 +302,7 @@ fn prefixed(row: &[u8], at: usize, word: u64, deed: Deed, opened: usize) -> Opti
     let second = cell_at(row, at + 1);
     if deed == Deed::Separates {
         if is_digit(second) {
-            return Some(sign(cells::letter_of(second), at + 2, Mode::Mixed, opened));
+            return Some(sign(point_in(word_of(second)), at + 2, Mode::Mixed, opened));
         }
     }
     let point = field_in(cells::second_word(second), kind_in(word) * POINT_BITS)?;
@@ -443,7 +443,8 @@ fn point_inside(row: &[u8], at: usize, point: u32, opened: usize) -> Option<Step
     requires { (length row.now ≤ longest_row) × (at < length row.now) × (Some point ≡ shown (run_point (word_of (cell_of row.now at)) between)) }
     ensures { Quick row.now at num mid opened result }
 {
-    if is_digit(cell_at(row, at + 1)) {
+    let follows = cell_at(row, at + 1);
+    if is_digit(follows) {
         return Some(sign(point, at + 1, Mode::Mid, opened));
     }
     None
@@ -488,7 +489,7 @@ pub fn owed_at(row: &[u8], at: usize, opened: usize) -> Option<Step>
     if row[at] != D46 {
         return None;
     }
-    let letter = shown(cells::capital_owed(byte_at(row, at + 1)))?;
+    let letter = shown(capital_in(word_of(byte_at(row, at + 1))))?;
     Some(sign(letter, at + 2, Mode::Owing, opened))
 }
 

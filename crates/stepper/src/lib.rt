@@ -8,8 +8,7 @@ ghost use Rattle.rules.specs.Castilian.{castilian};
 ghost use Rattle.stepper.specs.Promise.{Shows};
 
 use reader::{LONGEST_ROW, LONGEST_TEXT, Refusal, ends, reported_length, unread};
-use readings::cells::point_of;
-use readings::{NO_POINT, shown};
+use readings::{NO_POINT, point_of};
 use walks::{Stand, walk};
 
 // The sign that starts at a place: its print (`lead` is a code point that has no cell and goes before `point`, if it has one), and the place after it.
@@ -39,7 +38,7 @@ fn step_cell(row: &[u8], place: usize) -> Result<Option<Sign>, Refusal>
     requires { length row.now ≡ 1 }
     ensures { Shows castilian row.now place result }
 {
-    let Some(point) = shown(point_of(row[0])) else {
+    let Some(point) = point_of(row[0]) else {
         return Err(unread(row, 0));
     };
     if place != 0 {
