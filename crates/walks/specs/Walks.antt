@@ -1,7 +1,7 @@
 -- What a walk over a part of a row finds. In order: what is written to a lent text; the signs of a part; what is read where signs follow one another alike; what
 -- a walk finds; cells that are only counted. It is told by the signs that the rules' own reader finds (`left` of the crate `readings`); only inner promises name
 -- these. Assumes nothing.
-use Rattle.std.specs.Prelude.{Result, Ok, Err, List, [], ◌∷◌, ◌++◌, true, ◌⊎◌, ◌≡◌, ℕ, ◌+◌, ◌*◌, ◌≤◌, ◌<◌, length, take, drop, get_or}
+use Rattle.std.specs.Prelude.{Some, None, Result, Ok, Err, List, [], ◌∷◌, ◌++◌, true, ◌⊎◌, ◌≡◌, ℕ, ◌+◌, ◌*◌, ◌≤◌, ◌<◌, length, take, drop, get_or}
 use Rattle.std.specs.declared.option.Option as std
 use Rattle.std.proofs.Math.Option.{Option, none}
 use Rattle.rules.specs.Cells.{Text, Row, last_cell}
@@ -12,10 +12,11 @@ use Rattle.rows.specs.Laid.{laid}
 use Rattle.readings.specs.Modes.{mode_count, number_of, mode_at, free, mixed}
 use Rattle.readings.specs.Left.{left, add_sign}
 use Rattle.readings.specs.Print.{points}
+use Rattle.readings.specs.Readings.{step_at}
 use Rattle.readings.specs.declared.Mode.{Mode}
 use Rattle.readings.specs.declared.Step.{Step}
 use Rattle.signs.specs.Among.{alone_cell}
-use Rattle.signs.specs.Runs.{no_run, run_of, Quick}
+use Rattle.signs.specs.Runs.{no_run, run_of}
 use Rattle.walks.specs.declared.Stand.{Stand}
 use Rattle.walks.specs.declared.NoText.{NoText}
 
@@ -67,26 +68,39 @@ a_stand at m o n = record { at = at; mode = mode_at m; opened = o; count = n }
 abbrev pub Stands : Row → Stand → Type 0
 Stands row w = (length row ≤ longest_row) × (w.at ≤ length row) × (w.opened < open_states) × (w.count ≤ 2 * w.at)
 
+-- the same place, of which nothing is counted
+abbrev pub uncounted : Stand → Stand
+uncounted w = record { at = w.at; mode = w.mode; opened = w.opened; count = 0 }
+
 -- signs lead from one such place to another
 abbrev pub LeadsOn : Row → ℕ → Stand → Stand → List Sign → Type 0
 LeadsOn row stop v w ss = Leads row stop v.at (number_of v.mode) v.opened w.at (number_of w.mode) w.opened ss
 
--- WHAT READS SIGNS THAT FOLLOW ALIKE, where a walk stands: the mode is that one, or one of the same run, and what is read is a quick reading whose sign leaves such a mode
-abbrev pub Kin : ℕ → ℕ → Type 0
-Kin n m = (run_of n ≡ run_of m) × (run_of m ≡ no_run → n ≡ m)
-
-abbrev pub Reads : (ℕ → Mode → Type 0) → (ℕ → Mode → std.Option Step → Type 0) → Row → Stand → Type 0
-Reads pre post row w =
-    (at : ℕ) (m : Mode) → at < length row → Kin (number_of m) (number_of w.mode)
-    → pre at m × ((s : std.Option Step) → post at m s → (n : ℕ) × Kin n (number_of w.mode) × Quick row at (number_of m) n w.opened s)
-
 -- WHAT IS READ where signs follow one another alike, behind those that are counted: so many as are read so
-pub data Runs (row : Row) (stop : ℕ) (v : Stand) (t t' : List ℕ) (w : Stand) : Type 0 where
-  runs_on : (ss : List Sign) → LeadsOn row stop v w ss → w.count ≡ v.count + length (print_of ss) → Wrote t t' v.count (print_of ss) → Runs row stop v t t' w
+pub record Runs (row : Row) (stop : ℕ) (v : Stand) (t t' : List ℕ) (w : Stand) : Type 0 where
+  pub signs : List Sign
+  pub leads : LeadsOn row stop v w signs
+  pub count : w.count ≡ v.count + length (print_of signs)
+  pub wrote : Wrote t t' v.count (print_of signs)
 
 -- and each has a cell for itself, so that there is room as before
 abbrev pub RoomLeft : ℕ → ℕ → Stand → Type 0
 RoomLeft stop room w = Room stop w.at w.count room
+
+-- WHAT READS THEM: the mode is that in which they began, or one of the same run; and what is read is a quick reading, whose sign leaves such a mode and the pairs as they are
+abbrev pub Kin : ℕ → ℕ → Type 0
+Kin n m = (run_of n ≡ run_of m) × (run_of m ≡ no_run → n ≡ m)
+
+abbrev pub Alike : Row → ℕ → Mode → Stand → std.Option Step → Type 0
+Alike row at m w s =
+    (s ≡ None)
+    ⊎ ((s ≡ step_at row at (number_of m) w.opened)
+    × ((x : Step) × (s ≡ Some x) × (x.lead ≡ None) × (x.opened ≡ w.opened) × Kin (number_of x.mode) (number_of w.mode)))
+
+abbrev pub Reads : (ℕ → Mode → Type 0) → (ℕ → Mode → std.Option Step → Type 0) → Row → Stand → Type 0
+Reads pre post row w =
+    (at : ℕ) (m : Mode) → at < length row → Kin (number_of m) (number_of w.mode)
+    → pre at m × ((s : std.Option Step) → post at m s → Alike row at m w s)
 
 -- WHAT A STRETCH FINDS: signs up to a place, or as far as there is room, but one at least; or that no text has the row
 pub data Strides (row : Row) (stop : ℕ) (v : Stand) (t t' : List ℕ) : Result Stand NoText → Type 0 where

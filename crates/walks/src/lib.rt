@@ -4,9 +4,8 @@
 
 ghost use Rattle.std.specs.Prelude.{List, [], ◌≡◌, ℕ, ◌+◌, ◌*◌, ◌≤◌, ◌<◌, length, Some, None};
 ghost use Rattle.rules.specs.Refusals.{longest_row};
-ghost use Rattle.readings.specs.Modes.{number_of};
 ghost use Rattle.readings.specs.Print.{points};
-ghost use Rattle.walks.specs.Walks.{most_points, a_stand, Stands, Wrote, Room, RoomLeft, Reads, Runs, Strides, Goes, AllCells, Alone, Tallied};
+ghost use Rattle.walks.specs.Walks.{most_points, a_stand, uncounted, Stands, Wrote, Room, RoomLeft, Reads, Runs, Strides, Goes, AllCells, Alone, Tallied};
 
 use readings::{Mode, NO_POINT, Step};
 
@@ -197,6 +196,7 @@ fn stretch(row: &[u8], from: Stand, stop: usize, text: &mut [u32]) -> Result<Sta
                 );
                 at = last.at;
                 mode = last.mode;
+                opened = last.opened;
                 count = last.count;
             }
         }
@@ -215,7 +215,7 @@ const SCRAP: usize = 128;
 // A stretch that nothing is written of; it is counted from 0 on.
 fn unwritten(row: &[u8], from: Stand, stop: usize) -> Result<Stand, NoText>
     requires { Stands row.now from × (stop ≤ length row.now) }
-    ensures { Strides row.now stop (a_stand from.at (number_of from.mode) from.opened 0) [] [] result }
+    ensures { Strides row.now stop (uncounted from) [] [] result }
 {
     let mut scrap = [NO_POINT; SCRAP];
     stretch(row, Stand { count: 0, ..from }, stop, &mut scrap)
@@ -249,10 +249,12 @@ fn behind_alone(row: &[u8], from: usize) -> usize
     requires { (from ≤ length row.now) × AllCells row.now }
     ensures { Alone row.now from result }
 {
-    match row[from..].iter().position(|cell| !signs::is_alone(*cell)) {
-        Some(length) => from + length,
-        None => row.len(),
+    for at in from..row.len() {
+        if !signs::is_alone(row[at]) {
+            return at;
+        }
     }
+    row.len()
 }
 
 // The same in a mode that reads them so, where there is no room for them; otherwise the place itself.
