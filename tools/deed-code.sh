@@ -19,28 +19,33 @@ cat <<TEXT
 // $what: 16 rows of 16. Where there is no row or no class of a number,
 // there is no sign.
 ghost use Rattle.std.specs.Prelude.{◌≡◌, ◌<◌, get_or};
-ghost use Rattle.$crate.specs.Acts.{no_sign};
+ghost use Rattle.$crate.specs.Acts.{no_sign, deed_number};
 ghost use Rattle.$crate.specs.Deeds.{deeds, deed_count};
 
+use crate::Deed;
 TEXT
-
-printf '%s\n' "$places" | awk -F '\t' '{ print $3 }' | sh tools/imports.sh
 
 cat <<'TEXT'
 
 // There is no other place in the table than these.
 #[tactic(auto, unfolding(crate::specs::Deeds::deeds))]
-pub fn deed_at(place: usize) -> usize
+pub fn deed_at(place: usize) -> Deed
     requires { place < deed_count }
-    ensures { result ≡ get_or deeds place no_sign }
+    ensures { deed_number result ≡ get_or deeds place no_sign }
 {
     match place {
 TEXT
 
 # An arm for each place, under a comment for each state. The last is for all that the others are not.
 printf '%s\n' "$places" | awk -F '\t' -v last="$last" '
+# NO_SIGN is `NoSign`.
+function named(name,   word, words, i, whole) {
+    words = split(name, word, "_")
+    for (i = 1; i <= words; i++) whole = whole substr(word[i], 1, 1) tolower(substr(word[i], 2))
+    return whole
+}
 $2 != state { state = $2; print "        // " state }
-{ print "        " ($1 == last ? "_" : $1) " => " $3 ", // " $4 }'
+{ print "        " ($1 == last ? "_" : $1) " => Deed::" named($3) ", // " $4 }'
 
 cat <<'TEXT'
     }

@@ -75,31 +75,17 @@ pub extern "C" fn desk_transcribe(print: &[u32], row: &mut [u8]) -> Shown
 }
 
 // The two numbers of an answer to a row.
-pub fn read_numbers(answer: reader::Answer) -> Shown
+pub fn read_numbers(answer: Result<usize, reader::Refusal>) -> Shown
     ensures { result ≡ read_of answer }
 {
-    match answer {
-        reader::Answer::Done(n) => Shown {
-            number: DONE,
-            second: n,
-        },
-        reader::Answer::TooLong(n) => Shown {
-            number: TOO_LONG,
-            second: n,
-        },
-        reader::Answer::NotACell(n) => Shown {
-            number: NOT_A_CELL,
-            second: n,
-        },
-        reader::Answer::NoText => Shown {
-            number: NO_TEXT,
-            second: 0,
-        },
-        reader::Answer::NeedsRoom(n) => Shown {
-            number: NEEDS_ROOM,
-            second: n,
-        },
-    }
+    let (number, second) = match answer {
+        Ok(n) => (DONE, n),
+        Err(reader::Refusal::TooLong(n)) => (TOO_LONG, n),
+        Err(reader::Refusal::NotACell(n)) => (NOT_A_CELL, n),
+        Err(reader::Refusal::NoText) => (NO_TEXT, 0),
+        Err(reader::Refusal::NeedsRoom(n)) => (NEEDS_ROOM, n),
+    };
+    Shown { number, second }
 }
 
 // Cells to print, as `reader::read`: any row, any lent text. Two wrong programs that the promise shuts out: one that shows "no text" for a byte that is no cell,
@@ -111,55 +97,44 @@ pub extern "C" fn desk_read(row: &[u8], text: &mut [u32]) -> Shown
     read_numbers(reader::read(row, text))
 }
 
-// A sign of a row, as numbers.
-fn shown_sign(lead: u32, point: u32, next: usize) -> Sign
-    ensures { result ≡ points_of lead point next }
+// What a step shows, as numbers.
+fn sign_numbers(shown: Result<Option<stepper::Sign>, reader::Refusal>, place: usize) -> Sign
+    ensures { result ≡ sign_of place shown }
 {
-    if lead == NO_POINT {
-        return Sign {
-            number: DONE,
-            second: 1,
-            first: point,
-            then: NO_POINT,
-            next,
-        };
-    }
-    Sign {
-        number: DONE,
-        second: 2,
-        first: lead,
-        then: point,
-        next,
+    match shown {
+        Ok(Some(sign)) => match sign.lead {
+            None => Sign {
+                number: DONE,
+                second: 1,
+                first: sign.point,
+                then: NO_POINT,
+                next: sign.next,
+            },
+            Some(lead) => Sign {
+                number: DONE,
+                second: 2,
+                first: lead,
+                then: sign.point,
+                next: sign.next,
+            },
+        },
+        Ok(None) => still(DONE, 0, place),
+        Err(refusal) => {
+            let refused = read_numbers(Err(refusal));
+            still(refused.number, refused.second, place)
+        }
     }
 }
 
 // No code point, and the place stays.
-fn no_sign(shown: Shown, place: usize) -> Sign
-    ensures { result ≡ still_of shown place }
+fn still(number: usize, second: usize, place: usize) -> Sign
 {
     Sign {
-        number: shown.number,
-        second: shown.second,
+        number,
+        second,
         first: NO_POINT,
         then: NO_POINT,
         next: place,
-    }
-}
-
-// What a step shows, as numbers.
-fn sign_numbers(shown: stepper::Shown, place: usize) -> Sign
-    ensures { result ≡ sign_of place shown }
-{
-    match shown {
-        stepper::Shown::Sign { lead, point, next } => shown_sign(lead, point, next),
-        stepper::Shown::Still => no_sign(
-            Shown {
-                number: DONE,
-                second: 0,
-            },
-            place,
-        ),
-        stepper::Shown::Refused(answer) => no_sign(read_numbers(answer), place),
     }
 }
 

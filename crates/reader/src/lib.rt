@@ -11,21 +11,18 @@ ghost use Rattle.rules.specs.Rows.{Reads};
 ghost use Rattle.rules.specs.Refusals.{longest_row, longest_text, reported};
 ghost use Rattle.rules.proofs.Machine.{at_rest};
 ghost use Rattle.rows.specs.Laid.{laid};
-ghost use Rattle.readings.specs.Modes.{mode_of, mode_count, free};
+ghost use Rattle.readings.specs.Modes.{mode_of, number_of};
 ghost use Rattle.walks.specs.Walks.{CellsFrom, AllCells, Goes};
 ghost use Rattle.reader.specs.Promise.{Read};
 ghost use Rattle.reader.specs.Passes.{FirstHigh, RefusesRow, Found, Settled, word_row, line_row};
 
-use readings::cells::point_of;
-use readings::{FREE, NO_POINT};
+use readings::{Mode, NO_POINT, point_of};
 use signs::LAST_CELL;
-use walks::{Walked, walk, walk_row};
+use walks::{NoText, Stand, walk, walk_row};
 
-// The answer to a row. `Done` has the count of code points written; any other is a refusal, and the lent text is then as it was. Paper 01's number and
-// second number for each are given by `Promise.refusal_of`.
-#[derive(Clone, Copy)]
-pub enum Answer {
-    Done(usize),
+// Why a row is refused; the lent text is then as it was. Paper 01's number and second number for each are given by `Promise.refusal_of`.
+#[derive(Clone, Copy, PartialEq, Eq)]
+pub enum Refusal {
     // the row is above 12,288 cells, or reads as a text above 4,096: that length
     TooLong(usize),
     // a byte above 63: the first such place
@@ -60,14 +57,10 @@ pub fn reported_length(n: usize) -> usize
 }
 
 // May a text end here: is what was begun whole, and no pair open?
-pub fn ends(mode: usize, opened: usize) -> bool
-    requires { mode < mode_count }
-    ensures { result ≡ (at_rest (mode_of mode) && eqb opened 0) }
+pub fn ends(mode: Mode, opened: usize) -> bool
+    ensures { result ≡ (at_rest (mode_of (number_of mode)) && eqb opened 0) }
 {
-    if opened == 0 {
-        return signs::rests(mode);
-    }
-    false
+    opened == 0 && signs::rests(mode)
 }
 
 // The greatest byte from a place on. (This loop has no way out but its end, so that the machine takes many bytes at once.)
@@ -76,13 +69,10 @@ fn greatest(row: &[u8], from: usize) -> u8
     ensures { (n : ℕ) → from ≤ n → n < length row.now → get_or row.now n 0 ≤ result }
 {
     let mut most: u8 = 0;
-    let mut place: usize = from;
-    while place < row.len() {
-        let byte = row[place];
-        if most < byte {
-            most = byte;
+    for byte in &row[from..] {
+        if most < *byte {
+            most = *byte;
         }
-        place += 1;
     }
     most
 }
@@ -95,144 +85,104 @@ fn first_high(row: &[u8], from: usize) -> usize
     if greatest(row, from) <= LAST_CELL {
         return row.len();
     }
-    let mut place: usize = from;
-    while place < row.len() {
-        if LAST_CELL < row[place] {
-            return place;
-        }
-        place += 1;
+    match row[from..].iter().position(|byte| LAST_CELL < *byte) {
+        Some(length) => from + length,
+        None => row.len(),
     }
-    place
 }
 
 // Why a row has no text: a byte of it is no cell, or no text of any length has these cells. Before the place `from` all are cells.
-pub fn unread(row: &[u8], from: usize) -> Answer
+pub fn unread(row: &[u8], from: usize) -> Refusal
     requires { (length row.now ≤ longest_row) × (from ≤ length row.now) × CellsFrom row.now 0 from × ((t : Text) → Reads castilian row.now t → ⊥) }
     ensures { RefusesRow castilian row.now result }
 {
     let high = first_high(row, from);
     if high < row.len() {
-        return Answer::NotACell(high);
-    }
-    Answer::NoText
-}
-
-// A draft, to the front of the lent text.
-fn copy(draft: &[u32], text: &mut [u32])
-    requires { length draft.now ≤ length text.old }
-    ensures { text.new ≡ laid draft.now text.old }
-{
-    let mut place: usize = 0;
-    while place < draft.len() {
-        text[place] = draft[place];
-        place += 1;
+        Refusal::NotACell(high)
+    } else {
+        Refusal::NoText
     }
 }
 
 // Walks a whole row. That a longer one is of cells was asked before.
-fn walk_whole(row: &[u8], draft: &mut [u32]) -> Walked
-    requires { (length row.now ≤ longest_row) × (length draft.old ≤ longest_row) × (line_row < length row.now → AllCells row.now) }
-    ensures { Goes row.now (length row.now) 0 free 0 0 draft.old draft.new result }
+fn walk_whole(row: &[u8], draft: &mut [u32]) -> Result<Stand, NoText>
 {
     if LINE_ROW < row.len() {
         return walk_row(row, draft);
     }
-    walk(row, 0, row.len(), FREE, 0, draft, 0)
+    walk(row, Stand::at_start(), row.len(), draft)
 }
 
-// The answer, by what a walk over the whole row found and by the room that is lent. `Done` has the count of code points that are then to be written.
-fn settle(row: &[u8], found: Walked, room: usize) -> Answer
-    requires { (length row.now ≤ longest_row) × Found row.now found }
-    ensures { Settled castilian row.now room result }
+// The count of code points that are to be written, or the refusal, by what a walk over the whole row found and by the room that is lent.
+fn settle(row: &[u8], found: Result<Stand, NoText>, room: usize) -> Result<usize, Refusal>
 {
-    match found {
-        Walked::Nowhere(cells) => unread(row, cells),
-        Walked::On {
-            at: _,
-            mode,
-            opened,
-            count,
-        } => {
-            if !ends(mode, opened) {
-                return Answer::NoText;
-            }
-            if LONGEST_TEXT < count {
-                return Answer::TooLong(count);
-            }
-            if room < count {
-                return Answer::NeedsRoom(count);
-            }
-            Answer::Done(count)
-        }
+    let end = match found {
+        Ok(end) => end,
+        Err(none) => return Err(unread(row, none.cells)),
+    };
+    if !ends(end.mode, end.opened) {
+        return Err(Refusal::NoText);
     }
+    if LONGEST_TEXT < end.count {
+        return Err(Refusal::TooLong(end.count));
+    }
+    if room < end.count {
+        return Err(Refusal::NeedsRoom(end.count));
+    }
+    Ok(end.count)
 }
 
 // Reads a row by way of a draft, which has room for any text of the row, or for the longest that is accepted. The walk is lent nothing that the caller
-// lent, so a refusal leaves that as it was. (One walk and a copy are faster than two walks, the first without room.)
-fn read_by(row: &[u8], draft: &mut [u32], text: &mut [u32]) -> Answer
-    requires { (length row.now ≤ longest_row) × (length draft.old ≤ longest_row) × (line_row < length row.now → AllCells row.now) × ((length row.now ≤ length draft.old) ⊎ (longest_text ≤ length draft.old)) }
-    ensures { Read castilian row.now text.old result text.new }
+// lent, so a refusal leaves that as it was. (One walk and a copy are faster than two walks, the first without room. A draft is cleared before it is used, so that a short row has a short one.)
+fn read_by<const ROOM: usize>(row: &[u8], text: &mut [u32]) -> Result<usize, Refusal>
 {
-    let found = walk_whole(row, draft);
-    let answer = settle(row, found, text.len());
-    let Answer::Done(count) = answer else {
-        return answer;
-    };
-    copy(&draft[..count], text);
-    answer
+    let mut draft = [NO_POINT; ROOM];
+    let found = walk_whole(row, &mut draft);
+    let count = settle(row, found, text.len())?;
+    text[..count].copy_from_slice(&draft[..count]);
+    Ok(count)
 }
 
-// The same for a row of a few cells. (Most of its time is the call's, so it has a draft of its own, and copies that an element at a time: of the count it is asked within
-// the loop, so that the compiler has no call for a copy of any length here, which would take longer.)
-fn read_word(row: &[u8], text: &mut [u32]) -> Answer
-    requires { length row.now ≤ word_row }
-    ensures { Read castilian row.now text.old result text.new }
+fn read_word(row: &[u8], text: &mut [u32]) -> Result<usize, Refusal>
 {
     let mut draft = [NO_POINT; WORD_ROW];
-    let found = walk(row, 0, row.len(), FREE, 0, &mut draft, 0);
-    let answer = settle(row, found, text.len());
-    let Answer::Done(count) = answer else {
-        return answer;
-    };
-    let mut place: usize = 0;
-    while place < WORD_ROW {
+    let found = walk(row, Stand::at_start(), row.len(), &mut draft);
+    let count = settle(row, found, text.len())?;
+    for place in 0..WORD_ROW {
         if place == count {
-            return answer;
+            break;
         }
         text[place] = draft[place];
-        place += 1;
     }
-    answer
+    Ok(count)
 }
 
 // A row of one cell: what that is alone, or it has no text. (No walk is needed, nor a draft.)
-fn read_cell(row: &[u8], text: &mut [u32]) -> Answer
+fn read_cell(row: &[u8], text: &mut [u32]) -> Result<usize, Refusal>
     requires { length row.now ≡ 1 }
     ensures { Read castilian row.now text.old result text.new }
 {
-    let point = point_of(row[0]);
-    if point == NO_POINT {
-        return unread(row, 0);
-    }
+    let Some(point) = point_of(row[0]) else {
+        return Err(unread(row, 0));
+    };
     if text.len() == 0 {
-        return Answer::NeedsRoom(1);
+        return Err(Refusal::NeedsRoom(1));
     }
     text[0] = point;
-    Answer::Done(1)
+    Ok(1)
 }
 
 // Cells to print: the answer of the rules for any row and any lent text, which then holds the text from its first element on and is otherwise as it was.
 // Two wrong programs that the promise shuts out: one that says that every row has no text, and one that writes before it knows that the row has one.
-// (A draft is cleared before it is used, so a short row has a short one. A longer row with a byte that is no cell is not walked for nothing; to ask that of a short
-// one would cost more than its walk.)
-pub fn read(row: &[u8], text: &mut [u32]) -> Answer
+// (A longer row with a byte that is no cell is not walked for nothing; to ask that of a short one would cost more than its walk.)
+pub fn read(row: &[u8], text: &mut [u32]) -> Result<usize, Refusal>
     ensures { Read castilian row.now text.old result text.new }
 {
     // a row of a few cells is asked for first: what is asked is then much of its time
     if row.len() <= WORD_ROW {
         // an empty row has the empty text
         if row.len() == 0 {
-            return Answer::Done(0);
+            return Ok(0);
         }
         if row.len() == 1 {
             return read_cell(row, text);
@@ -240,24 +190,20 @@ pub fn read(row: &[u8], text: &mut [u32]) -> Answer
         return read_word(row, text);
     }
     if LONGEST_ROW < row.len() {
-        return Answer::TooLong(reported_length(row.len()));
+        return Err(Refusal::TooLong(reported_length(row.len())));
     }
     if row.len() <= SHORT_ROW {
-        let mut draft = [NO_POINT; SHORT_ROW];
-        return read_by(row, &mut draft, text);
+        return read_by::<SHORT_ROW>(row, text);
     }
     if row.len() <= LINE_ROW {
-        let mut draft = [NO_POINT; LINE_ROW];
-        return read_by(row, &mut draft, text);
+        return read_by::<LINE_ROW>(row, text);
     }
     let stray = first_high(row, 0);
     if stray < row.len() {
-        return Answer::NotACell(stray);
+        return Err(Refusal::NotACell(stray));
     }
     if row.len() <= MIDDLE_ROW {
-        let mut draft = [NO_POINT; MIDDLE_ROW];
-        return read_by(row, &mut draft, text);
+        return read_by::<MIDDLE_ROW>(row, text);
     }
-    let mut draft = [NO_POINT; LONGEST_TEXT];
-    read_by(row, &mut draft, text)
+    read_by::<LONGEST_TEXT>(row, text)
 }

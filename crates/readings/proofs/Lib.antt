@@ -3,4 +3,5 @@ pub mod Sight
 pub mod Settling
 pub mod Tested
 pub mod Turning
+pub mod Numbers
 pub mod Print

@@ -2,16 +2,13 @@
 -- that fits; that only those that begin with the cell at hand count (`bucket_picks`); what settles it (`settle`), and what that means (`settled`). No clause names a
 -- sign. Assumes nothing.
 use mathlib.Core.Path.{◌≡◌, refl, sym, ◌∙◌, ap, subst}
-use mathlib.Core.Bool.{Bool, true, false, ◌&&◌, ◌||◌, not, cond}
+use mathlib.Core.Bool.{Bool, true, false, ◌&&◌, not, cond}
 use mathlib.Core.List.{List, [], ◌∷◌}
 use mathlib.Core.Option.{Option, none, some}
-use Prim.Native.Nat.{ℕ, ◌+◌, ◌≤◌, ◌<◌}
-use native.Mathlib.Omega.{arith}
-use lib.Dec.{T, eqb, ltb, leb, eqb→eq, ltb→lt}
+use Prim.Native.Nat.{ℕ, ◌+◌, ◌<◌}
+use lib.Dec.{T, eqb, ltb, eqb→eq, ltb→lt}
 use lib.ListN.{length}
-use Rattle.rules.specs.Cells.{Row, dots, last_cell}
-use Rattle.rules.specs.Sorts.{Sort, Item}
-use Rattle.rules.specs.Signs.{Way, sign_cells, own_cells, lower_cells}
+use Rattle.rules.specs.Cells.{Row}
 use Rattle.rules.specs.Pairs.{kinds, Opens, mark_of, may_stand, mark_fits, fits}
 use Rattle.rules.specs.Places.{class_at}
 use Rattle.rules.proofs.Finite.{every, and_left, and_right, and_both, and_false, false_of}
@@ -24,9 +21,10 @@ use Rattle.pairs.specs.Opened.{open_states, opens_of, is_open, turned_by}
 use Rattle.pairs.proofs.Pairing.{open_is}
 use Rattle.readings.specs.Fields.{no_cell}
 use Rattle.readings.specs.Readings as reading
-use Rattle.readings.specs.Readings.{Reading, reads, a_mark, opener_of, closer_of, step_of}
+use Rattle.readings.specs.Readings.{Reading, reads, a_mark, opener_of, closer_of, a_step, step_of}
 use Rattle.readings.specs.declared.Step.{Step}
-use Rattle.readings.specs.declared.Step.TheVariants as variant
+use Rattle.std.specs.declared.option.Option as rust
+use Rattle.std.specs.Prelude.{Some, None}
 use Rattle.readings.proofs.Sight.{Agree, low, says, says_match}
 
 -- A PIECE THAT A MODE TAKES, with the mode after it
@@ -125,10 +123,10 @@ abbrev pub opened_by : ℕ → Option (ℕ × Bool) → ℕ
 opened_by o none = o
 opened_by o (some k) = turned_by o k.0
 
-abbrev pub step_by : ℕ → ℕ → Option Cand → Step
-step_by at o none = variant.Nothing
+abbrev pub step_by : ℕ → ℕ → Option Cand → rust.Option Step
+step_by at o none = None
 step_by at o (some c) =
-    variant.Sign (lead_of c.0.0) c.0.1.0 (at + length (word c.0)) (mode_number c.1) (opened_by o (mark_of c.0.1.1))
+    Some (a_step (lead_of c.0.0) c.0.1.0 (at + length (word c.0)) (mode_number c.1) (opened_by o (mark_of c.0.1.1)))
 
 -- the candidate shows this, has so many cells, and leads to this mode
 abbrev like : Cand → ℕ → ℕ → ℕ → ℕ → Bool
@@ -209,7 +207,7 @@ taken true false x c e f = absurd (subst T (sym f) tt)
 taken false d x c e f = absurd (subst T (sym e) tt)
 
 -- a candidate that is like it, as a step
-like_step : (c : Cand) (l p w m at o u : ℕ) → T (like c l p w m) → opened_by o (mark_of c.0.1.1) ≡ u → step_by at o (some c) ≡ variant.Sign l p (at + w) m u
+like_step : (c : Cand) (l p w m at o u : ℕ) → T (like c l p w m) → opened_by o (mark_of c.0.1.1) ≡ u → step_by at o (some c) ≡ Some (a_step l p (at + w) m u)
 like_step c l p w m at o u t e =
     let a : lead_of c.0.0 ≡ l = eqb→eq (lead_of c.0.0) l (and_left (eqb (lead_of c.0.0) l) _ t) in
     let t1 = and_right (eqb (lead_of c.0.0) l) (eqb c.0.1.0 p && (eqb (length (word c.0)) w && eqb (mode_number c.1) m)) t in
@@ -266,7 +264,7 @@ module _ (known : List ℕ) (r : Row) (at o : ℕ) (few : o < open_states) (agre
 
   -- the closer
   closed_here : (k w : ℕ) → k < kinds → is_open o k ≡ true → (cs : List Cand) → T (Sound cs) → T (closes known k w cs)
-      → step_by at o (pick (opens_of o) r cs) ≡ variant.Sign 0 (closer_of k) (at + w) 0 (turned_by o k)
+      → step_by at o (pick (opens_of o) r cs) ≡ Some (a_step 0 (closer_of k) (at + w) 0 (turned_by o k))
   unfolding closes
   closed_here k w l opened [] u t = absurd t
   closed_here k w l opened (c ∷ cs) u t = go (says (word c.0) (look_of c.1) known) refl t (closed_here k w l opened cs (tail c cs u))
@@ -276,8 +274,8 @@ module _ (known : List ℕ) (r : Row) (at o : ℕ) (few : o < open_states) (agre
             | none ↦ false
             | some b ↦ elim b as (λ _. Bool) [ true ↦ same_mark k false (mark_of c.0.1.1) && like c 0 (closer_of k) w 0 | false ↦ closes known k w cs ]
           ])
-          → (T (closes known k w cs) → step_by at o (pick (opens_of o) r cs) ≡ variant.Sign 0 (closer_of k) (at + w) 0 (turned_by o k))
-          → step_by at o (pick (opens_of o) r (c ∷ cs)) ≡ variant.Sign 0 (closer_of k) (at + w) 0 (turned_by o k)
+          → (T (closes known k w cs) → step_by at o (pick (opens_of o) r cs) ≡ Some (a_step 0 (closer_of k) (at + w) 0 (turned_by o k)))
+          → step_by at o (pick (opens_of o) r (c ∷ cs)) ≡ Some (a_step 0 (closer_of k) (at + w) 0 (turned_by o k))
       go none e t ih = absurd t
       go (some true) e t ih =
           let q : mark_of c.0.1.1 ≡ some (k, false) = mark_is k false (mark_of c.0.1.1) (and_left (same_mark k false (mark_of c.0.1.1)) (like c 0 (closer_of k) w 0) t) in
@@ -304,7 +302,7 @@ module _ (known : List ℕ) (r : Row) (at o : ℕ) (few : o < open_states) (agre
       go l z (and_left (like c 0 (opener_of k) w 0) (closes known k w cs) t2) (and_right (like c 0 (opener_of k) w 0) (closes known k w cs) t2) (is_open o k) refl
     where
       go : k < kinds → mark_of c.0.1.1 ≡ some (k, true) → T (like c 0 (opener_of k) w 0) → T (closes known k w cs) → (x : Bool) → is_open o k ≡ x
-          → step_by at o (pick (opens_of o) r (c ∷ cs)) ≡ variant.Sign 0 (cond x (closer_of k) (opener_of k)) (at + w) 0 (turned_by o k)
+          → step_by at o (pick (opens_of o) r (c ∷ cs)) ≡ Some (a_step 0 (cond x (closer_of k) (opener_of k)) (at + w) 0 (turned_by o k))
       go l z h g true f =
           ap (step_by at o) (barred c cs (mark_fits_lem c k true true l z f)) ∙ closed_here k w l f cs (tail c cs u) g
       go l z h g false f =

@@ -25,7 +25,7 @@ use Rattle.readings.specs.Acts as act
 use Rattle.readings.specs.Deeds.{deeds}
 use Rattle.readings.specs.Fields.{deed_of, class_in, usual_in, no_cell}
 use Rattle.readings.specs.Words.{words, word_of, seconds}
-use Rattle.readings.specs.Readings.{once_list, reading_of, by_word, asked_by, capital_by, after_capital, number_by, percent_by, two_of, longer_by, prefix_by, opener_of, closer_of}
+use Rattle.readings.specs.Readings.{once_list, reading_of, by_word, asked_by, capital_by, after_capital, number_by, percent_by, two_of, longer_by, prefix_by, opener_of, closer_of, shown}
 use Rattle.readings.specs.Print.{points}
 use Rattle.readings.proofs.Sight.{says}
 use Rattle.readings.proofs.Settling.{Cand, cands, bucket, sound_word, closes, settle}
@@ -77,7 +77,7 @@ all_sound = tt
 -- no piece has more code points than cells, but for the cell to spare before it; where one is to spare behind it, it has fewer
 abbrev pub thrifty : Piece → ℕ → Option Mode → Bool
 thrifty s m none = true
-thrifty s m (some n) = leb (length (points (lead_of s.0) s.1.0) + spare (mode_number n)) (length (word s) + spare m)
+thrifty s m (some n) = leb (length (points (shown (lead_of s.0)) s.1.0) + spare (mode_number n)) (length (word s) + spare m)
 
 pub all_thrifty : T (every (λ (s : Piece). below (λ m. thrifty s m (step (mode_of m) s.0 (class_at s.1))) mode_count) (all_pieces castilian))
 unfolding all_pieces castilian ways_of class is_digit_cell dots sign_cells own_cells lower_cells step lead_of

@@ -2,7 +2,7 @@
 -- reads does not hang on cells that it does not ask for; the step is the sign found (`found`); one turn, and its ends; no more code points than cells. Assumes nothing.
 use mathlib.Core.Path.{◌≡◌, refl, sym, ◌∙◌, ap, subst}
 use mathlib.Core.Bool.{Bool, true, false, ◌&&◌, ◌||◌, not, cond, true≢false}
-use mathlib.Core.List.{List, [], ◌∷◌, ◌++◌, map}
+use mathlib.Core.List.{List, [], ◌∷◌, ◌++◌}
 use mathlib.Core.Logic.{⊎_elim}
 use mathlib.Core.Option.{Option, none, some}
 use Prim.Native.Nat.{ℕ, zero, suc, ◌+◌, ◌-◌, ◌≤◌, ◌<◌}
@@ -13,7 +13,7 @@ use lib.Dec.{T, eqb, leb, ltb, ltb→lt, eqb→eq}
 use borrow.Author.Tests.{leb-true}
 use lib.ListN.{length, get_or, drop, length-append, length-drop, drop_of_length-le, get_or-append}
 use lib.Seq.{get_or-drop, drop-drop}
-use Rattle.rules.specs.Cells.{Row, Text, dots, last_cell}
+use Rattle.rules.specs.Cells.{Row, dots, last_cell}
 use Rattle.rules.specs.Castilian.{castilian}
 use Rattle.rules.specs.Sorts.{class, is_digit_cell}
 use Rattle.rules.specs.Signs.{Sign, print_of}
@@ -30,15 +30,17 @@ use Rattle.entries.specs.Chosen.{choose}
 use Rattle.entries.proofs.Keys.{among, keys_of, chosen_key}
 use Rattle.pairs.specs.Opened.{open_states, opens_of}
 use Rattle.pairs.proofs.Pairing.{open_is, opening, closing, turned_few, closed_is}
-use Rattle.readings.specs.Modes.{mode_of, mode_count, spare}
+use Rattle.readings.specs.Modes.{mode_of, mode_count, number_of, spare}
 use Rattle.readings.specs.Acts as act
 use Rattle.readings.specs.Fields.{deed_of, class_in, usual_in, no_cell, cell_from, cell_of}
 use Rattle.readings.specs.Words.{word_of}
-use Rattle.readings.specs.Readings.{Reading, usual_by, once_list, ask_list, reading_of, by_word, asked_by, capital_by, prefix_by, two_of, longer_by, step_of, step_at}
+use Rattle.readings.specs.Readings.{Reading, usual_by, once_list, ask_list, reading_of, by_word, asked_by, capital_by, prefix_by, two_of, longer_by, shown, a_step, step_of, step_at}
 use Rattle.readings.specs.Left.{left, signs_by, add_sign}
 use Rattle.readings.specs.Print.{points}
 use Rattle.readings.specs.declared.Step.{Step}
-use Rattle.readings.specs.declared.Step.TheVariants as variant
+use Rattle.std.specs.declared.option.Option as rust
+use Rattle.std.specs.Prelude.{Some, None}
+use Rattle.readings.proofs.Numbers.{number_back}
 use Rattle.readings.proofs.Sight.{low, Agree}
 use Rattle.readings.proofs.Settling.{Cand, cands, pick, bucket, sound_word, sound_low, opened_by, step_by, find_picks, bucket_picks, cands_sound, bucket_sound, settle, settled, is_true}
 use Rattle.readings.proofs.Tested.{begun, asks, deeper, sights, right_two, right_one, right_at, all_right, all_sound, thrifty, all_thrifty}
@@ -181,7 +183,7 @@ module _ (row : Row) (at m o : ℕ) (small : m < mode_count) (few : o < open_sta
       ∙ ap (λ (z : ℕ). step_of at o (reading_of m (cell_of row at) (cell_of row (at + 1)) z)) (in_view 2)
 
 -- ONE TURN of a walk over the row: what a step that gives a sign says
-pub record Turn (row : Row) (at m o l p k n u : ℕ) : Type 0 where
+pub record Turn (row : Row) (at m o : ℕ) (l : rust.Option ℕ) (p k n u : ℕ) : Type 0 where
   pub sign : Sign
   pub shows : sign.shown ≡ points l p
   pub next_is : k ≡ at + length sign.taken
@@ -257,10 +259,10 @@ unfolding add
 signs_add s none = refl
 signs_add s (some ss) = refl
 
-shown_is : (l p : ℕ) → wait_text l ++ p ∷ [] ≡ points l p
+shown_is : (l p : ℕ) → wait_text l ++ p ∷ [] ≡ points (shown l) p
 shown_is l p = go (eqb l 0)
   where
-    go : (b : Bool) → cond b [] (l ∷ []) ++ p ∷ [] ≡ cond b (p ∷ []) (l ∷ p ∷ [])
+    go : (b : Bool) → cond b [] (l ∷ []) ++ p ∷ [] ≡ points (cond b None (Some l)) p
     go true = refl
     go false = refl
 
@@ -296,10 +298,10 @@ module _ (row : Row) (at m o : ℕ) (inside : at < length row) (small : m < mode
         omega (arith, e, leb-true (get_or (word s) (i - at) 0) last_cell (is_true (low (get_or (word s) (i - at) 0)) t))
 
     -- and it shows no more code points than cells, but for the cell to spare
-    spares : length (points (lead_of s.0) s.1.0) + spare (mode_number N) ≤ length (word s) + spare m
+    spares : length (points (shown (lead_of s.0)) s.1.0) + spare (mode_number N) ≤ length (word s) + spare m
     spares =
-        leb-true (length (points (lead_of s.0) s.1.0) + spare (mode_number N)) (length (word s) + spare m)
-        (is_true (leb (length (points (lead_of s.0) s.1.0) + spare (mode_number N)) (length (word s) + spare m))
+        leb-true (length (points (shown (lead_of s.0)) s.1.0) + spare (mode_number N)) (length (word s) + spare m)
+        (is_true (leb (length (points (shown (lead_of s.0)) s.1.0) + spare (mode_number N)) (length (word s) + spare m))
         (subst (λ (x : Option Mode). T (thrifty s m x)) (goes_some (mode_of m) (opens_of o) s it.1).1
         (at_below (λ n. thrifty s n (step (mode_of n) s.0 (class_at s.1))) mode_count
         (every_in (λ (q : Piece). below (λ n. thrifty q n (step (mode_of n) q.0 (class_at q.1))) mode_count) tb all_thrifty s it.0) m small)))
@@ -319,7 +321,7 @@ module _ (row : Row) (at m o : ℕ) (inside : at < length row) (small : m < mode
         ∙ ap (λ (q : Opens). add s (walk tb (mode_of (mode_number N)) q 0 (drop (at + length (word s)) row))) leaves.0)
         ∙ signs_add s (walk tb (mode_of (mode_number N)) (opens_of (opened_by o (mark_of s.1.1))) 0 (drop (at + length (word s)) row))
 
-    turn_by : (l p k n u : ℕ) → lead_of s.0 ≡ l → s.1.0 ≡ p → at + length (word s) ≡ k → mode_number N ≡ n → opened_by o (mark_of s.1.1) ≡ u
+    turn_by : (l : rust.Option ℕ) (p k n u : ℕ) → shown (lead_of s.0) ≡ l → s.1.0 ≡ p → at + length (word s) ≡ k → mode_number N ≡ n → opened_by o (mark_of s.1.1) ≡ u
         → Turn row at m o l p k n u
     turn_by l p k n u el ep ek en eu =
         record {
@@ -329,7 +331,7 @@ module _ (row : Row) (at m o : ℕ) (inside : at < length row) (small : m < mode
           forward = omega (arith, ek, has_cell);
           within = omega (arith, ek, reaches);
           cells = λ i h j. cells_there i h (omega (arith, j, ek));
-          thrift = omega (arith, ek, en, spares, ap length (ap (λ (x : ℕ). points x s.1.0) el), ap length (ap (points l) ep), ap spare en);
+          thrift = omega (arith, ek, en, spares, ap length (ap (λ (x : rust.Option ℕ). points x s.1.0) el), ap length (ap (points l) ep), ap spare en);
           mode = omega (arith, en, mode_small N);
           opens = omega (arith, eu, leaves.1);
           signs_left =
@@ -339,18 +341,22 @@ module _ (row : Row) (at m o : ℕ) (inside : at < length row) (small : m < mode
               ∙ ap (λ (j : ℕ). add_sign (sign_of s) (left n j (drop k row))) eu;
         }
 
-  pub turn_of : (l p k n u : ℕ) → step_at row at m o ≡ variant.Sign l p k n u → Turn row at m o l p k n u
-  turn_of l p k n u q = go (find (all_pieces castilian) (mode_of m) (opens_of o) (drop at row)) refl (step_found row at m o small few ∙ q)
+  pub turn_of : (s : Step) → step_at row at m o ≡ Some s → Turn row at m o s.lead s.point s.next (number_of s.mode) s.opened
+  turn_of x q = go (find (all_pieces castilian) (mode_of m) (opens_of o) (drop at row)) refl (step_found row at m o small few ∙ q)
     where
-      go : (g : Option Cand) → find (all_pieces castilian) (mode_of m) (opens_of o) (drop at row) ≡ g → step_by at o g ≡ variant.Sign l p k n u
-          → Turn row at m o l p k n u
+      go : (g : Option Cand) → find (all_pieces castilian) (mode_of m) (opens_of o) (drop at row) ≡ g → step_by at o g ≡ Some x
+          → Turn row at m o x.lead x.point x.next (number_of x.mode) x.opened
       go none e f = let z : ◌≡◌ {A = ℕ} 0 1 = cc in absurd (omega arith)
-      go (some c) e f = turn_by c.0 c.1 e l p k n u (cc) (cc) (cc) (cc) (cc)
+      go (some c) e f =
+          let y : Step = a_step (lead_of c.0.0) c.0.1.0 (at + length (word c.0)) (mode_number c.1) (opened_by o (mark_of c.0.1.1)) in
+          let z : y ≡ x = cc in
+          turn_by c.0 c.1 e x.lead x.point x.next (number_of x.mode) x.opened
+          (ap (λ (s : Step). s.lead) z) (ap (λ (s : Step). s.point) z) (ap (λ (s : Step). s.next) z) (sym (number_back (mode_number c.1) (mode_small c.1)) ∙ ap (λ (s : Step). number_of s.mode) z) (ap (λ (s : Step). s.opened) z)
 
-  pub none_left : step_at row at m o ≡ variant.Nothing → left m o (drop at row) ≡ none
+  pub none_left : step_at row at m o ≡ None → left m o (drop at row) ≡ none
   none_left q = go (find (all_pieces castilian) (mode_of m) (opens_of o) (drop at row)) refl (step_found row at m o small few ∙ q)
     where
-      go : (g : Option Cand) → find (all_pieces castilian) (mode_of m) (opens_of o) (drop at row) ≡ g → step_by at o g ≡ variant.Nothing
+      go : (g : Option Cand) → find (all_pieces castilian) (mode_of m) (opens_of o) (drop at row) ≡ g → step_by at o g ≡ None
           → left m o (drop at row) ≡ none
       go none e f = ap signs_by (walk_none tb (mode_of m) (opens_of o) (drop at row) some_left e)
       go (some c) e f = let z : ◌≡◌ {A = ℕ} 0 1 = cc in absurd (omega arith)
@@ -389,13 +395,13 @@ module _ (row : Row) where
       → ((k n u : ℕ) → at < k → k ≤ length row → n < mode_count → u < open_states → Thrifty k n u) → Thrifty at m o
   on_turn at m o inside small few on ss e = go (step_at row at m o) refl
     where
-      go : (g : Step) → step_at row at m o ≡ g → length (print_of ss) + at ≤ length row + spare m
-      go variant.Nothing q = absurd (some_not_none e (none_left row at m o inside small few q))
-      go (variant.Sign l p k n u) q = more (turn_of row at m o inside small few l p k n u q) (left n u (drop k row)) refl
+      go : (g : rust.Option Step) → step_at row at m o ≡ g → length (print_of ss) + at ≤ length row + spare m
+      go None q = absurd (some_not_none e (none_left row at m o inside small few q))
+      go (Some s) q = more s.lead s.point s.next (number_of s.mode) s.opened (turn_of row at m o inside small few s q) (left (number_of s.mode) s.opened (drop s.next row)) refl
         where
-          more : Turn row at m o l p k n u → (x : Option (List Sign)) → left n u (drop k row) ≡ x → length (print_of ss) + at ≤ length row + spare m
-          more here none f = absurd (some_not_none e (here.signs_left ∙ ap (add_sign here.sign) f))
-          more here (some xs) f =
+          more : (l : rust.Option ℕ) (p k n u : ℕ) → Turn row at m o l p k n u → (x : Option (List Sign)) → left n u (drop k row) ≡ x → length (print_of ss) + at ≤ length row + spare m
+          more l p k n u here none f = absurd (some_not_none e (here.signs_left ∙ ap (add_sign here.sign) f))
+          more l p k n u here (some xs) f =
               let z : here.sign ∷ xs ≡ ss = same (sym (here.signs_left ∙ ap (add_sign here.sign) f) ∙ e) in
               omega (arith, on k n u here.forward here.within here.mode here.opens xs f, here.thrift, ap (λ (ys : List Sign). length (print_of ys)) (sym z), length-append here.sign.shown (print_of xs), ap length here.shows)
 

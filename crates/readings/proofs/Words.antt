@@ -43,3 +43,7 @@ no_field g z ks t c r =
 pub one_left : (n k : ℕ) (ks : List ℕ) → T (below (λ x. among ks x || eqb x k) n) → (x : ℕ) → x < n → Rest Unit ks x → x ≡ k
 one_left n k ks t x l r =
     eqb→eq x k (none_of_keys (among ks x) (eqb x k) (rest_none Unit ks x r).1 (at_below (λ x. among ks x || eqb x k) n t x l))
+
+-- a table of the code has at each place what is said of it, if it is so of the places, one by one
+pub table_told : (xs : List ℕ) (f : ℕ → ℕ) (count : ℕ) → T (below (λ n. eqb (get_or xs n 0) (f n)) count) → (n : ℕ) → n < count → get_or xs n 0 ≡ f n
+table_told xs f count t n l = eqb→eq (get_or xs n 0) (f n) (at_below (λ n. eqb (get_or xs n 0) (f n)) count t n l)

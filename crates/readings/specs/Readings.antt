@@ -1,6 +1,6 @@
 -- What is read at a place, from the mode and three cells. In order: a reading; what the cell alone decides; what the cells that follow decide; the reading at a
 -- place; the step that it is. These are the inner functions' promises: that a reading is what the rules find is shown in proofs/. Assumes nothing.
-use Rattle.std.specs.Prelude.{Bool, cond, not, ◌&&◌, List, [], ◌∷◌, ℕ, ◌+◌, ◌*◌, ◌%◌, eqb, get_or}
+use Rattle.std.specs.Prelude.{Bool, Option, Some, None, cond, not, ◌&&◌, List, [], ◌∷◌, ℕ, ◌+◌, ◌*◌, ◌%◌, eqb, get_or}
 use Prim.Native.Char.{code}
 use Rattle.rules.specs.Cells.{Row, dots}
 use Rattle.entries.specs.Chosen.{choose}
@@ -10,7 +10,6 @@ use Rattle.readings.specs.Acts as act
 use Rattle.readings.specs.Fields.{deed_of, class_in, point_in, capital_in, figure_in, lower_in, kind_in, then_in, usual_in, field_in, cell_of}
 use Rattle.readings.specs.Words.{word_of, second_of}
 use Rattle.readings.specs.declared.Step.{Step}
-use Rattle.readings.specs.declared.Step.TheVariants as step
 
 -- no code point
 abbrev pub no_point : ℕ
@@ -145,14 +144,22 @@ closers = code "?" ∷ code "!" ∷ code "»" ∷ code "’" ∷ 0xe001 ∷ []
 unfoldable pub closer_of : ℕ → ℕ
 closer_of k = get_or closers (k % 8) no_point
 
+-- a field as a code point, if it has one
+abbrev pub shown : ℕ → Option ℕ
+shown n = cond (eqb n no_point) None (Some n)
+
+-- by its lead (or `no_point`), its code point, the place after it, the mode and the open pairs
+abbrev pub a_step : ℕ → ℕ → ℕ → ℕ → ℕ → Step
+a_step l p next m o = record { lead = shown l; point = p; next = next; mode = mode.mode_at m; opened = o }
+
 abbrev pub mark_step : ℕ → ℕ → ℕ → Step
-mark_step next o k = step.Sign no_point (cond (is_open o k) (closer_of k) (opener_of k)) next mode.free (turned_by o k)
+mark_step next o k = a_step no_point (cond (is_open o k) (closer_of k) (opener_of k)) next mode.free (turned_by o k)
 
-abbrev pub step_of : ℕ → ℕ → Reading → Step
-step_of at o nothing = step.Nothing
-step_of at o (reads l p c m) = step.Sign l p (at + c) m o
-step_of at o (a_mark k c) = mark_step (at + c) o k
+abbrev pub step_of : ℕ → ℕ → Reading → Option Step
+step_of at o nothing = None
+step_of at o (reads l p c m) = Some (a_step l p (at + c) m o)
+step_of at o (a_mark k c) = Some (mark_step (at + c) o k)
 
-unfoldable pub step_at : Row → ℕ → ℕ → ℕ → Step
+unfoldable pub step_at : Row → ℕ → ℕ → ℕ → Option Step
 unfolding reading_of
 step_at row at m o = step_of at o (reading_of m (cell_of row at) (cell_of row (at + 1)) (cell_of row (at + 2)))

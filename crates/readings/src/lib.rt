@@ -1,66 +1,107 @@
-// What is read at a place of a row, as the code has it: the answer that a step gives; the modes, the classes of cells and the deeds, by name; the word of a
+// What is read at a place of a row, as the code has it: the answer that a step gives; the modes and the deeds; the classes of cells, by name; the word of a
 // cell by its fields (`cells`); the deed of each mode and class (`table`); the marks of the pairs. What is done with these is crates/signs.
 // A new sign is a line of crates/rules/specs/Castilian.antt, printed again; a new mode, deed or class is added in tools/readings.txt, and as a constant here
 // and in specs/, and a mode besides where it is said what a capital leaves in each (`capital_modes` of specs/Readings, AFTER_CAPITAL of crates/signs); a new pair
 // kind is also an arm of `opener_of` and of `closer_of`, and one whose marks have two cells, as ‘ and ’ have, an arm of `prefixed` of crates/signs.
 #![tactic(auto)]
 
-ghost use Rattle.std.specs.Prelude.{◌≡◌};
+ghost use Rattle.std.specs.Prelude.{◌≡◌, leb};
+ghost use Rattle.readings.specs.Modes.{owing, number_of, mode_at};
+ghost use Rattle.readings.specs.Acts.{deed_number};
 ghost use Rattle.readings.specs.Fields.{class_in, point_in, capital_in, figure_in, lower_in, kind_in, then_in, deed_of};
-ghost use Rattle.readings.specs.Readings.{opener_of, closer_of};
+ghost use Rattle.readings.specs.Words.{word_of};
+ghost use Rattle.readings.specs.Readings.{shown, opener_of, closer_of};
 
 pub mod cells;
 mod table;
 
-// What a step gives: the print of the sign (`lead` is a code point that has no cell and goes with it, or NO_POINT), the place after it, and what it
-// leaves: the mode and the open pairs. Or no sign that the rules allow starts there.
+// What a step gives where a sign starts: its print (`lead` is a code point that has no cell and goes before `point`, if it has one), the place after it, and what
+// it leaves: the mode and the open pairs.
 #[derive(Clone, Copy)]
-pub enum Step {
-    Sign {
-        lead: u32,
-        point: u32,
-        next: usize,
-        mode: usize,
-        opened: usize,
-    },
-    Nothing,
+pub struct Step {
+    pub lead: Option<u32>,
+    pub point: u32,
+    pub next: usize,
+    pub mode: Mode,
+    pub opened: usize,
 }
 
-// The modes: what the signs before a place leave (tools/readings.txt says what each is).
-pub const FREE: usize = 0;
+// Where a reader stands between two signs: what the signs before a place leave.
+#[derive(Clone, Copy, PartialEq, Eq)]
+pub enum Mode {
+    // nothing is begun
+    Free,
+    // after a capital that begins a run
+    Lone,
+    // in a run with a small letter
+    Mixed,
+    // after 46-46 and one letter: another must follow
+    Whole1,
+    // in a denominator that is 1 so far: a digit must follow
+    Under1,
+    // after a point or comma that ends a number
+    End,
+    // after a hyphen
+    Hyphen,
+    // after ª
+    Fem,
+    // after %
+    Percent,
+    // from here on more signs of the same sort may follow: after two capitals or more, each with its 46: a small letter must follow
+    Owing,
+    // after U+2014
+    Dash,
+    // after 46-46 and two letters or more
+    Whole2,
+    // in an ordinary number
+    Num,
+    // in the lower digits of an ordinal or a fraction: its end must follow
+    Low,
+    // in any other denominator
+    Under,
+    // after a point or comma inside a number: a digit must follow
+    Mid,
+}
 
-pub const LONE: usize = 1;
+impl Mode {
+    // Its number, as the fields of words have it. (The way back: `mode_at`.)
+    pub fn number(self) -> usize
+        ensures { result ≡ number_of self }
+    {
+        self as usize
+    }
 
-pub const MIXED: usize = 2;
+    // May more signs of the sort that left it follow, to be read at once?
+    pub fn goes_on(self) -> bool
+        ensures { result ≡ leb owing (number_of self) }
+    {
+        Mode::Owing.number() <= self.number()
+    }
+}
 
-pub const WHOLE1: usize = 3;
-
-pub const UNDER1: usize = 4;
-
-pub const END: usize = 5;
-
-pub const HYPHEN: usize = 6;
-
-pub const FEM: usize = 7;
-
-pub const PERCENT: usize = 8;
-
-// The modes behind which signs may follow alike, from ALIKE on.
-pub const ALIKE: usize = OWING;
-
-pub const OWING: usize = 9;
-
-pub const DASH: usize = 10;
-
-pub const WHOLE2: usize = 11;
-
-pub const NUM: usize = 12;
-
-pub const LOW: usize = 13;
-
-pub const UNDER: usize = 14;
-
-pub const MID: usize = 15;
+// The mode that has a number.
+pub fn mode_at(number: usize) -> Mode
+    ensures { result ≡ mode_at number }
+{
+    match number {
+        0 => Mode::Free,
+        1 => Mode::Lone,
+        2 => Mode::Mixed,
+        3 => Mode::Whole1,
+        4 => Mode::Under1,
+        5 => Mode::End,
+        6 => Mode::Hyphen,
+        7 => Mode::Fem,
+        8 => Mode::Percent,
+        9 => Mode::Owing,
+        10 => Mode::Dash,
+        11 => Mode::Whole2,
+        12 => Mode::Num,
+        13 => Mode::Low,
+        14 => Mode::Under,
+        _ => Mode::Mid,
+    }
+}
 
 // The classes of cells: all that the table asks of one.
 const NOTHING: u64 = 0;
@@ -95,45 +136,34 @@ const SEPARATOR: u64 = 14;
 
 const PREFIX: u64 = 15;
 
-// The deeds that the cell alone decides.
-pub const NO_SIGN: usize = 0;
-
-pub const AS_USUAL: usize = 1;
-
-pub const DIGIT: usize = 2;
-
-pub const DIGIT_UNDER: usize = 3;
-
-pub const CAPITAL_OF_MANY: usize = 4;
-
-pub const LOWER_DIGIT: usize = 5;
-
-pub const DENOMINATOR: usize = 6;
-
-pub const MASCULINE_MARK: usize = 7;
-
-// The questions, which the cells that follow decide.
-pub const POINT: usize = 8;
-
-pub const ONE_OR_FEMININE: usize = 9;
-
-pub const HYPHEN_OR_DASH: usize = 10;
-
-pub const DASH_ONLY: usize = 11;
-
-pub const NUMBER_SIGN: usize = 12;
-
-pub const CAPITAL: usize = 13;
-
-pub const SEPARATES: usize = 14;
-
-pub const PREFIXED: usize = 15;
+// What is read at a place (tools/readings.txt says what each deed is).
+#[derive(Clone, Copy, PartialEq, Eq)]
+pub enum Deed {
+    // the cell alone decides
+    NoSign,
+    AsUsual,
+    Digit,
+    DigitUnder,
+    CapitalOfMany,
+    LowerDigit,
+    Denominator,
+    MasculineMark,
+    // questions, which the cells that follow decide
+    Point,
+    OneOrFeminine,
+    HyphenOrDash,
+    DashOnly,
+    NumberSign,
+    Capital,
+    Separates,
+    Prefixed,
+}
 
 // The fields of a cell's word, from the lowest: where each stands, and how many values it has room for. What is asked of most cells is where the machine
 // finds it at once: the modes lowest, the mode after it highest.
 const USUAL_AT: u64 = 1;
 
-pub const MODE_PLACES: usize = 16;
+const MODE_PLACES: usize = 16;
 
 const POINT_AT: u64 = 65536;
 
@@ -174,7 +204,7 @@ pub const POINT_BITS: usize = 16;
 // How many classes a row of the table has room for.
 const TABLE_ROW: usize = 16;
 
-// No code point.
+// No code point, in a field of a word and at a kind that is none.
 pub const NO_POINT: u32 = 0;
 
 // How many kinds of pair marks the look-ups have room for.
@@ -182,6 +212,20 @@ const MARK_PLACES: usize = 8;
 
 // The kind of ‘ and ’, whose cells are 6-236.
 pub const INNER_QUOTES: usize = 3;
+
+// A field of a word as a code point, if it has one.
+pub fn shown(field: u32) -> Option<u32>
+    ensures { result ≡ shown field }
+{
+    if field == NO_POINT { None } else { Some(field) }
+}
+
+// What a byte is alone: a small letter or a sign, if it is one. (For a row of one cell.)
+pub fn point_of(cell: u8) -> Option<u32>
+    ensures { result ≡ shown (point_in (word_of cell)) }
+{
+    shown(point_in(cells::word_of(cell)))
+}
 
 // The class of a cell, by its word.
 pub fn class_in(word: u64) -> usize
@@ -226,47 +270,48 @@ pub fn kind_in(word: u64) -> usize
 }
 
 // The mode after it where it is read as usual.
-pub fn then_in(word: u64) -> usize
-    ensures { result ≡ then_in word }
+pub fn then_in(word: u64) -> Mode
+    ensures { result ≡ mode_at (then_in word) }
 {
-    (word / THEN_AT) as usize
+    mode_at((word / THEN_AT) as usize)
 }
 
 // What the table says of a mode and a class. (Both are below 16, so that the remainders are they.)
-pub fn deed_of(mode: usize, class: usize) -> usize
-    ensures { result ≡ deed_of mode class }
+pub fn deed_of(mode: Mode, class: usize) -> Deed
+    ensures { deed_number result ≡ deed_of (number_of mode) class }
 {
-    table::deed_at(mode % MODE_PLACES * TABLE_ROW + class % TABLE_ROW)
+    table::deed_at(mode.number() % MODE_PLACES * TABLE_ROW + class % TABLE_ROW)
 }
 
-// The opener and the closer of a kind; the kinds have the numbers of the rules (crates/rules/specs/Pairs.antt). (A kind is below 8, so that the remainder is the
-// kind. Those that are none yet are named, so that the compiler makes a table of it and asks nothing first.)
+// The openers and the closers, by kind; the kinds have the numbers of the rules (crates/rules/specs/Pairs.antt), and those that are none yet have no mark.
+static OPENERS: [u32; MARK_PLACES] = [
+    0xbf, // ¿
+    0xa1, // ¡
+    0xab, // «
+    0x2018, // ‘
+    0xe000, // emphasis opens
+    NO_POINT, NO_POINT, NO_POINT,
+];
+
+static CLOSERS: [u32; MARK_PLACES] = [
+    0x3f, // ?
+    0x21, // !
+    0xbb, // »
+    0x2019, // ’
+    0xe001, // emphasis closes
+    NO_POINT, NO_POINT, NO_POINT,
+];
+
+// The opener of a kind. (A kind is below 8, so that the remainder is the kind.)
 pub fn opener_of(kind: usize) -> u32
     ensures { result ≡ opener_of kind }
 {
-    match kind % MARK_PLACES {
-        0 => 0xbf, // ¿
-        1 => 0xa1, // ¡
-        2 => 0xab, // «
-        INNER_QUOTES => 0x2018, // ‘
-        5 => NO_POINT,
-        6 => NO_POINT,
-        7 => NO_POINT,
-        _ => 0xe000, // emphasis opens
-    }
+    OPENERS[kind % MARK_PLACES]
 }
 
+// Its closer.
 pub fn closer_of(kind: usize) -> u32
     ensures { result ≡ closer_of kind }
 {
-    match kind % MARK_PLACES {
-        0 => 0x3f, // ?
-        1 => 0x21, // !
-        2 => 0xbb, // »
-        INNER_QUOTES => 0x2019, // ’
-        5 => NO_POINT,
-        6 => NO_POINT,
-        7 => NO_POINT,
-        _ => 0xe001, // emphasis closes
-    }
+    CLOSERS[kind % MARK_PLACES]
 }

@@ -12,27 +12,45 @@ use lib.ListN.{length, get_or, get_or-eq_default}
 use borrow.Author.Tests.{eq-eqb, ne_eqb, le-leb, lt-leb, leb-true, not-true}
 use Rattle.rules.specs.Cells.{Row, dots, last_cell}
 use Rattle.rules.specs.Pairs.{kinds}
-use Rattle.rules.proofs.Finite.{below, at_below, beq_same, and_false, le_or_lt, implies}
-use Rattle.rules.proofs.Machine.{at_rest}
+use Rattle.rules.proofs.Finite.{below, at_below, beq_same, le_or_lt, implies}
 use Rattle.entries.specs.Chosen.{choose}
-use Rattle.entries.proofs.Keys.{among, Rest, keys_of, chosen_rest, rest_none}
-use Rattle.pairs.specs.Opened.{is_open}
 use Rattle.readings.specs.Modes as mode
-use Rattle.readings.specs.Modes.{mode_of, mode_count}
+use Rattle.readings.specs.Modes.{mode_of, mode_count, number_of}
+use Rattle.readings.specs.declared.Mode.{Mode}
+use Rattle.readings.specs.declared.Mode.TheVariants as a
 use Rattle.readings.specs.Acts as act
 use Rattle.readings.specs.Deeds.{deeds}
-use Rattle.readings.specs.Fields.{deed_of, class_in, point_in, capital_in, figure_in, lower_in, letter_in, inside_in, kind_in, then_in, usual_in, run_point, no_cell, cell_of}
+use Rattle.readings.specs.Fields.{deed_of, class_in, point_in, capital_in, figure_in, lower_in, kind_in, then_in, usual_in, run_point, no_cell, cell_of}
 use Rattle.readings.specs.Words.{words, letters_alone, signs_alone, word_of}
-use Rattle.readings.specs.Readings.{no_point, Reading, reads, one, usual_by, once_list, digit_cell, capital_modes, after_capital, capital_by, number_by, percent_by, inner_quotes, two_of, two_list, longer_by, prefix_by, ask_list, asked_by, reading_of, by_word, opener_of, closer_of, mark_step, step_of, step_at}
+use Rattle.readings.specs.Readings.{no_point, shown, a_step, Reading, reads, one, usual_by, once_list, digit_cell, capital_modes, after_capital, capital_by, number_by, percent_by, inner_quotes, two_of, two_list, longer_by, prefix_by, ask_list, asked_by, reading_of, by_word, opener_of, closer_of, mark_step, step_of, step_at}
 use Rattle.readings.specs.Readings as reading
 use Rattle.signs.specs.Among.{digit_cells, lower_cells, cell_among, lower_cell, alone_cell}
 use Rattle.signs.specs.Runs.{between, no_run, run_of, home_of, Quick, InRun}
 use Rattle.readings.specs.declared.Step.{Step}
-use Rattle.readings.specs.declared.Step.TheVariants as variant
+use Rattle.std.specs.Prelude.{Option, Some, None}
 use Rattle.readings.proofs.Words.{past_words}
 use Rattle.readings.proofs.Settling.{is_true}
 use Rattle.readings.proofs.Tested.{sights}
 use Rattle.readings.proofs.Turning.{sight_small}
+
+-- A STEP that gives a sign
+abbrev pub gives : ℕ → ℕ → ℕ → ℕ → ℕ → Option Step
+gives lead point next mode opened = Some (a_step lead point next mode opened)
+
+-- what a look-up shows says what its field is
+pub none_shown : (n : ℕ) → shown n ≡ None → n ≡ no_point
+none_shown n e = go (eqb n no_point) refl e
+  where
+    go : (b : Bool) → eqb n no_point ≡ b → ◌≡◌ {A = Option ℕ} (cond b None (Some n)) None → n ≡ no_point
+    go true f e = eqb→eq n no_point (subst T (sym f) tt)
+    go false f e = let z : ◌≡◌ {A = ℕ} 0 1 = cc in absurd (omega (arith, z))
+
+pub some_shown : (n p : ℕ) → shown n ≡ Some p → (p ≡ n) × (p ≡ no_point → ⊥)
+some_shown n p e = go (eqb n no_point) refl e
+  where
+    go : (b : Bool) → eqb n no_point ≡ b → cond b None (Some n) ≡ Some p → (p ≡ n) × (p ≡ no_point → ⊥)
+    go true f e = let z : ◌≡◌ {A = ℕ} 0 1 = cc in absurd (omega (arith, z))
+    go false f e = let z : p ≡ n = cc in (z, λ q. true≢false (sym (eq-eqb n no_point (sym z ∙ q)) ∙ f))
 
 -- THE CELL AT A PLACE
 inside_any : (r : Row) (n : ℕ) (a b : ℕ) → n < length r → get_or r n a ≡ get_or r n b
@@ -77,29 +95,6 @@ module _ (r : Row) (n : ℕ) where
       (λ h. get_or-eq_default words 0 {n = get_or r n no_cell} h ∙ ap (λ (b : Bool). word_of (cond b (get_or r n no_cell) no_cell)) (sym (lt-leb (get_or r n no_cell) last_cell h)))
       (le_or_lt (get_or r n no_cell) last_cell)
 
--- THE MODES AT REST
-abbrev pub owes : List ℕ
-owes = mode.owing ∷ mode.whole1 ∷ mode.low ∷ mode.under1 ∷ mode.mid ∷ []
-
-rests_right : T (below (λ m. among owes m || at_rest (mode_of m)) mode_count)
-unfolding at_rest
-rests_right = tt
-
-pub at_rest_there : (m : ℕ) → m < mode_count → Rest Unit owes m → true ≡ at_rest (mode_of m)
-at_rest_there m l r = go (among owes m) (rest_none Unit owes m r).1 (at_below (λ m. among owes m || at_rest (mode_of m)) mode_count rests_right m l)
-  where
-    go : (b : Bool) → b ≡ false → T (b || at_rest (mode_of m)) → true ≡ at_rest (mode_of m)
-    go true e t = absurd (subst T e tt)
-    go false e t = sym (is_true (at_rest (mode_of m)) t)
-
--- A MARK
-module _ (next o k p : ℕ) where
-  pub closes_it : is_open o k ≡ true → p ≡ closer_of k → (u : ℕ) → variant.Sign no_point p next mode.free u ≡ variant.Sign no_point (cond (is_open o k) (closer_of k) (opener_of k)) next mode.free u
-  closes_it e q u = rw (e, q)
-
-  pub opens_it : is_open o k ≡ false → p ≡ opener_of k → (u : ℕ) → variant.Sign no_point p next mode.free u ≡ variant.Sign no_point (cond (is_open o k) (closer_of k) (opener_of k)) next mode.free u
-  opens_it e q u = rw (e, q)
-
 -- WHAT A CELL IS AMONG: a byte that is none is among nothing
 module _ (these c : ℕ) where
   pub high_among : last_cell < c → false ≡ cell_among these c
@@ -141,43 +136,10 @@ has_field g z f t c n =
     ⊎_elim (λ l. subst (λ (b : Bool). T (b || f c)) (not-true (eqb (g (word_of c)) no_point) n) (at_below (λ c. eqb (g (word_of c)) no_point || f c) no_cell t c l))
     (λ l. absurd (has_some (g (word_of c)) n (ap g (past_words c l) ∙ z))) (le_or_lt (suc c) no_cell)
 
--- a digit is what it is inside a number; a lower digit is the digit of half its cell; the cell of a digit is a letter
-pub inside_digit : (w : ℕ) → not (eqb (figure_in w) no_point) ≡ true → inside_in w ≡ figure_in w
-inside_digit w n = rw (not-true (eqb (figure_in w) no_point) n)
-
-pub inside_lowered : (c : ℕ) → lower_cell c ≡ true → inside_in (word_of (c / 2)) ≡ lower_in (word_of c)
+-- a lower digit is the digit of half its cell
+pub figure_lowered : (c : ℕ) → lower_cell c ≡ true → figure_in (word_of (c / 2)) ≡ lower_in (word_of c)
 unfolding words
-inside_lowered c n =
-    eqb→eq (inside_in (word_of (c / 2))) (lower_in (word_of c)) (has_field lower_in refl (λ c. eqb (inside_in (word_of (c / 2))) (lower_in (word_of c))) tt c n)
-
-digit_letter : (c : ℕ) → digit_cell c ≡ true → letter_in (word_of c) ≡ point_in (word_of c)
-unfolding words
-digit_letter c n = eqb→eq (letter_in (word_of c)) (point_in (word_of c)) (has_field figure_in refl (λ c. eqb (letter_in (word_of c)) (point_in (word_of c))) tt c n)
-
--- AFTER 3456, of the word of the second cell
-module _ (at o w : ℕ) where
-  pub number_figure : not (eqb (figure_in w) no_point) ≡ true → (f : ℕ) → f ≡ figure_in w → variant.Sign no_point f (at + 2) mode.num o ≡ step_of at o (number_by w)
-  unfolding number_by
-  number_figure n f e = rw (ne_eqb (figure_in w) no_point (has_some (figure_in w) n), e)
-
-  module _ (z : not (eqb (figure_in w) no_point) ≡ false) where
-    pub number_lower : not (eqb (lower_in w) no_point) ≡ true → (l : ℕ) → l ≡ lower_in w → variant.Sign no_point l (at + 2) mode.low o ≡ step_of at o (number_by w)
-    unfolding number_by
-    number_lower n l g = rw (eq-eqb (figure_in w) no_point (has_none (figure_in w) z), ne_eqb (lower_in w) no_point (has_some (lower_in w) n), g)
-
-    pub number_none : not (eqb (lower_in w) no_point) ≡ false → variant.Nothing ≡ step_of at o (number_by w)
-    unfolding number_by
-    number_none n = rw (eq-eqb (figure_in w) no_point (has_none (figure_in w) z), eq-eqb (lower_in w) no_point (has_none (lower_in w) n))
-
--- AFTER 456-356
-module _ (at o z : ℕ) where
-  pub per_mille : z ≡ dots 356 → variant.Sign no_point (code "‰") (at + 3) mode.free o ≡ step_of at o (percent_by z)
-  unfolding percent_by
-  per_mille e = rw (eq-eqb z (dots 356) e)
-
-  pub percent_alone : (z ≡ dots 356 → ⊥) → variant.Sign no_point (code "%") (at + 2) mode.percent o ≡ step_of at o (percent_by z)
-  unfolding percent_by
-  percent_alone n = rw (ne_eqb z (dots 356) n)
+figure_lowered c n = eqb→eq (figure_in (word_of (c / 2))) (lower_in (word_of c)) (has_field lower_in refl (λ c. eqb (figure_in (word_of (c / 2))) (lower_in (word_of c))) tt c n)
 
 -- AFTER 46: the mode after a capital, by the mode before it, is what the code's number has, four bits for each
 abbrev packed : List ℕ → ℕ
@@ -187,135 +149,71 @@ packed (m ∷ ms) = m + 16 * packed ms
 abbrev pub after_capitals : ℕ
 after_capitals = packed capital_modes
 
-afters_right : T (below (λ n. eqb (after_capitals / 2 ^ (n * 4) % 16) (get_or capital_modes n mode.free)) mode_count)
-afters_right = tt
-
-pub after_told : (m : ℕ) → after_capitals / 2 ^ (m % 16 * 4) % 16 ≡ after_capital m
+pub after_told : (m : Mode) → after_capitals / 2 ^ (number_of m * 4) % 16 ≡ after_capital (number_of m)
 unfolding after_capital
-after_told m =
-    eqb→eq (after_capitals / 2 ^ (m % 16 * 4) % 16) (get_or capital_modes (m % 16) mode.free)
-    (at_below (λ n. eqb (after_capitals / 2 ^ (n * 4) % 16) (get_or capital_modes n mode.free)) mode_count afters_right (m % 16) (omega arith))
+after_told a.Free = refl
+after_told a.Lone = refl
+after_told a.Mixed = refl
+after_told a.Whole1 = refl
+after_told a.Under1 = refl
+after_told a.End = refl
+after_told a.Hyphen = refl
+after_told a.Fem = refl
+after_told a.Percent = refl
+after_told a.Owing = refl
+after_told a.Dash = refl
+after_told a.Whole2 = refl
+after_told a.Num = refl
+after_told a.Low = refl
+after_told a.Under = refl
+after_told a.Mid = refl
 
-module _ (at o m y z : ℕ) where
-  module _ (a : y ≡ dots 46) (f : ℕ) (e : f ≡ capital_in (word_of z)) where
-    pub run_none : f ≡ no_point → variant.Nothing ≡ step_of at o (capital_by m y z)
-    unfolding capital_by
-    run_none n = rw (eq-eqb y (dots 46) a, eq-eqb (capital_in (word_of z)) no_point (sym e ∙ n))
+pub after_small : (m : Mode) → after_capital (number_of m) < mode_count
+unfolding after_capital
+after_small a.Free = omega arith
+after_small a.Lone = omega arith
+after_small a.Mixed = omega arith
+after_small a.Whole1 = omega arith
+after_small a.Under1 = omega arith
+after_small a.End = omega arith
+after_small a.Hyphen = omega arith
+after_small a.Fem = omega arith
+after_small a.Percent = omega arith
+after_small a.Owing = omega arith
+after_small a.Dash = omega arith
+after_small a.Whole2 = omega arith
+after_small a.Num = omega arith
+after_small a.Low = omega arith
+after_small a.Under = omega arith
+after_small a.Mid = omega arith
 
-    pub run_first : (f ≡ no_point → ⊥) → after_capital m ≡ mode.lone → variant.Sign no_point f (at + 3) mode.whole1 o ≡ step_of at o (capital_by m y z)
-    unfolding capital_by
-    run_first n q = rw (eq-eqb y (dots 46) a, ne_eqb (capital_in (word_of z)) no_point (λ h. n (e ∙ h)), eq-eqb (after_capital m) mode.lone q, e)
+-- as an option of a mode
+abbrev pub some_mode : ℕ → Option Mode
+some_mode n = cond (eqb n mode.free) None (Some (mode.mode_at n))
 
-    pub run_barred : (f ≡ no_point → ⊥) → (after_capital m ≡ mode.lone → ⊥) → variant.Nothing ≡ step_of at o (capital_by m y z)
-    unfolding capital_by
-    run_barred n q = rw (eq-eqb y (dots 46) a, ne_eqb (capital_in (word_of z)) no_point (λ h. n (e ∙ h)), ne_eqb (after_capital m) mode.lone q)
-
-  module _ (a : y ≡ dots 46 → ⊥) where
-    module _ (b : y ≡ dots 2) where
-      pub greater_owed : m ≡ mode.owing → variant.Nothing ≡ step_of at o (capital_by m y z)
-      unfolding capital_by
-      greater_owed q = rw (ne_eqb y (dots 46) a, eq-eqb y (dots 2) b, eq-eqb m mode.owing q)
-
-      pub greater : (m ≡ mode.owing → ⊥) → variant.Sign no_point (code ">") (at + 2) mode.free o ≡ step_of at o (capital_by m y z)
-      unfolding capital_by
-      greater q = rw (ne_eqb y (dots 46) a, eq-eqb y (dots 2) b, ne_eqb m mode.owing q)
-
-    module _ (b : y ≡ dots 2 → ⊥) (f : ℕ) (e : f ≡ capital_in (word_of y)) where
-      pub letter_none : f ≡ no_point → variant.Nothing ≡ step_of at o (capital_by m y z)
-      unfolding capital_by
-      letter_none n = rw (ne_eqb y (dots 46) a, ne_eqb y (dots 2) b, eq-eqb (capital_in (word_of y)) no_point (sym e ∙ n))
-
-      module _ (n : f ≡ no_point → ⊥) where
-        pub letter_barred : after_capital m ≡ mode.free → variant.Nothing ≡ step_of at o (capital_by m y z)
-        unfolding capital_by
-        letter_barred q =
-            rw (ne_eqb y (dots 46) a, ne_eqb y (dots 2) b, ne_eqb (capital_in (word_of y)) no_point (λ h. n (e ∙ h)), eq-eqb (after_capital m) mode.free q)
-
-        pub letter_stands : (after_capital m ≡ mode.free → ⊥) → variant.Sign no_point f (at + 2) (after_capital m) o ≡ step_of at o (capital_by m y z)
-        unfolding capital_by
-        letter_stands q =
-            rw (ne_eqb y (dots 46) a, ne_eqb y (dots 2) b, ne_eqb (capital_in (word_of y)) no_point (λ h. n (e ∙ h)), ne_eqb (after_capital m) mode.free q, e)
-
--- A LONGER SIGN, w being the word of its first cell
-module _ (at o d w y z : ℕ) where
-  pub separated_letter_lem : d ≡ act.separates → digit_cell y ≡ true → (p : ℕ) → p ≡ letter_in (word_of y)
-      → variant.Sign no_point p (at + 2) mode.mixed o ≡ step_of at o (prefix_by d w y z)
-  unfolding prefix_by
-  separated_letter_lem q t p h = ap (λ (n : ℕ). variant.Sign no_point n (at + 2) mode.mixed o) (h ∙ digit_letter y t) ∙ sym (rw (eq-eqb d act.separates q, t))
-
-  -- what is known once it is no separated letter
-  abbrev pub Longer : Type 0
-  Longer = (eqb d act.separates && digit_cell y) ≡ false
-
-  pub no_digit : digit_cell y ≡ false → Longer
-  no_digit t = ap (λ (b : Bool). eqb d act.separates && b) t ∙ and_false (eqb d act.separates)
-
-  pub no_separator : (d ≡ act.separates → ⊥) → Longer
-  no_separator n = rw (ne_eqb d act.separates n)
-
-  -- by the sign of two cells that the look-up gives
-  module _ (l : Longer) (p : ℕ) (e : p ≡ two_of w y) where
-    by_two : step_of at o (choose (two_list z) p (one p 2 mode.free)) ≡ step_of at o (prefix_by d w y z)
-    unfolding prefix_by longer_by
-    by_two = ap (λ (n : ℕ). step_of at o (choose (two_list z) n (one n 2 mode.free))) e ∙ sym (rw l)
-
-    pub two_none : p ≡ no_point → variant.Nothing ≡ step_of at o (prefix_by d w y z)
-    two_none q = sym (rw q) ∙ by_two
-
-    pub is_percent : p ≡ code "%" → (s : Step) → s ≡ step_of at o (percent_by z) → s ≡ step_of at o (prefix_by d w y z)
-    is_percent q s h = h ∙ sym (rw q) ∙ by_two
-
-    pub is_quote : p ≡ code "‘" → (s : Step) → s ≡ mark_step (at + 2) o inner_quotes → s ≡ step_of at o (prefix_by d w y z)
-    is_quote q s h = h ∙ sym (rw q) ∙ by_two
-
-    pub two_sign : Rest Unit (keys_of (two_list z)) p → variant.Sign no_point p (at + 2) mode.free o ≡ step_of at o (prefix_by d w y z)
-    two_sign r = sym (ap (step_of at o) (chosen_rest (two_list z) p (one p 2 mode.free) r)) ∙ by_two
+pub mode_given : (m : Mode) → (m ≡ a.Free → ⊥) → Some m ≡ some_mode (number_of m)
+mode_given a.Free n = absurd (n refl)
+mode_given a.Lone n = refl
+mode_given a.Mixed n = refl
+mode_given a.Whole1 n = refl
+mode_given a.Under1 n = refl
+mode_given a.End n = refl
+mode_given a.Hyphen n = refl
+mode_given a.Fem n = refl
+mode_given a.Percent n = refl
+mode_given a.Owing n = refl
+mode_given a.Dash n = refl
+mode_given a.Whole2 n = refl
+mode_given a.Num n = refl
+mode_given a.Low n = refl
+mode_given a.Under n = refl
+mode_given a.Mid n = refl
 
 -- WHAT THE CELLS THAT FOLLOW DECIDE
 module _ (at o m d w y z : ℕ) where
-  pub point_inside_lem : d ≡ act.point → digit_cell y ≡ true → (p : ℕ) → p ≡ point_in w → variant.Sign no_point p (at + 1) mode.mid o ≡ step_of at o (asked_by m d w y z)
+  pub point_inside_lem : d ≡ act.point → digit_cell y ≡ true → (p : ℕ) → p ≡ point_in w → gives no_point p (at + 1) mode.mid o ≡ step_of at o (asked_by m d w y z)
   unfolding asked_by
   point_inside_lem q e p h = rw (q, e, h)
-
-  pub point_ends : d ≡ act.point → digit_cell y ≡ false → (p : ℕ) → p ≡ point_in w → variant.Sign no_point p (at + 1) mode.end o ≡ step_of at o (asked_by m d w y z)
-  unfolding asked_by
-  point_ends q e p h = rw (q, e, h)
-
-  pub one_under_lem : d ≡ act.one_or_feminine → digit_cell y ≡ true → variant.Sign (code "⁄") (code "1") (at + 1) mode.under1 o ≡ step_of at o (asked_by m d w y z)
-  unfolding asked_by
-  one_under_lem q e = rw (q, e)
-
-  pub feminine_mark_lem : d ≡ act.one_or_feminine → digit_cell y ≡ false → variant.Sign (code ".") (code "ª") (at + 1) mode.fem o ≡ step_of at o (asked_by m d w y z)
-  unfolding asked_by
-  feminine_mark_lem q e = rw (q, e)
-
-  pub dash_here : d ≡ act.hyphen_or_dash → y ≡ dots 36 → variant.Sign no_point (code "—") (at + 2) mode.dash o ≡ step_of at o (asked_by m d w y z)
-  unfolding asked_by
-  dash_here q e = rw (q, eq-eqb y (dots 36) e)
-
-  pub hyphen_here : d ≡ act.hyphen_or_dash → (y ≡ dots 36 → ⊥) → variant.Sign no_point (code "-") (at + 1) mode.hyphen o ≡ step_of at o (asked_by m d w y z)
-  unfolding asked_by
-  hyphen_here q e = rw (q, ne_eqb y (dots 36) e)
-
-  pub dash_again : d ≡ act.dash_only → y ≡ dots 36 → variant.Sign no_point (code "—") (at + 2) mode.dash o ≡ step_of at o (asked_by m d w y z)
-  unfolding asked_by
-  dash_again q e = rw (q, eq-eqb y (dots 36) e)
-
-  pub half_dash : d ≡ act.dash_only → (y ≡ dots 36 → ⊥) → variant.Nothing ≡ step_of at o (asked_by m d w y z)
-  unfolding asked_by
-  half_dash q e = rw (q, ne_eqb y (dots 36) e)
-
-  pub number_here : d ≡ act.number_sign → (s : Step) → s ≡ step_of at o (number_by (word_of y)) → s ≡ step_of at o (asked_by m d w y z)
-  unfolding asked_by
-  number_here q s e = e ∙ sym (rw q)
-
-  pub capital_here : d ≡ act.capital → (s : Step) → s ≡ step_of at o (capital_by m y z) → s ≡ step_of at o (asked_by m d w y z)
-  unfolding asked_by
-  capital_here q s e = e ∙ sym (rw q)
-
-  pub longer_here : Rest Unit (keys_of (ask_list m w y z)) d → (s : Step) → s ≡ step_of at o (prefix_by d w y z) → s ≡ step_of at o (asked_by m d w y z)
-  unfolding asked_by
-  longer_here r s e = e ∙ sym (ap (step_of at o) (chosen_rest (ask_list m w y z) d (prefix_by d w y z) r))
 
 -- THE STEP AT A PLACE, w being the word of the cell there
 module _ (row : Row) (at m o w : ℕ) (e : w ≡ word_of (cell_of row at)) where
@@ -335,39 +233,34 @@ module _ (row : Row) (at m o w : ℕ) (e : w ≡ word_of (cell_of row at)) where
         ∙ ap (λ (n : ℕ). step_of at o (choose (once_list w) n (asked_by m n w (cell_of row (at + 1)) (cell_of row (at + 2))))) told
         ∙ sym (rw u) ∙ by_word_lem
 
-    pub told_none : d ≡ act.no_sign → variant.Nothing ≡ step_at row at m o
+    -- the step, as the table tells it
+    pub told_by : step_of at o (choose (once_list w) d (asked_by m d w (cell_of row (at + 1)) (cell_of row (at + 2)))) ≡ step_at row at m o
+    told_by = by_deed (choose (once_list w) d (asked_by m d w (cell_of row (at + 1)) (cell_of row (at + 2)))) refl
+
+    pub told_none : d ≡ act.no_sign → None ≡ step_at row at m o
     told_none q = by_deed reading.nothing (rw q)
 
-    pub told_digit : d ≡ act.digit → (p : ℕ) → p ≡ figure_in w → variant.Sign no_point p (at + 1) mode.num o ≡ step_at row at m o
-    told_digit q p h = ap (λ (n : ℕ). variant.Sign no_point n (at + 1) mode.num o) h ∙ by_deed (one (figure_in w) 1 mode.num) (rw q)
+    pub told_digit : d ≡ act.digit → (p : ℕ) → p ≡ figure_in w → gives no_point p (at + 1) mode.num o ≡ step_at row at m o
+    told_digit q p h = ap (λ (n : ℕ). gives no_point n (at + 1) mode.num o) h ∙ by_deed (one (figure_in w) 1 mode.num) (rw q)
 
-    pub told_under : d ≡ act.digit_under → (p : ℕ) → p ≡ figure_in w → variant.Sign no_point p (at + 1) mode.under o ≡ step_at row at m o
-    told_under q p h = ap (λ (n : ℕ). variant.Sign no_point n (at + 1) mode.under o) h ∙ by_deed (one (figure_in w) 1 mode.under) (rw q)
+    pub told_under : d ≡ act.digit_under → (p : ℕ) → p ≡ figure_in w → gives no_point p (at + 1) mode.under o ≡ step_at row at m o
+    told_under q p h = ap (λ (n : ℕ). gives no_point n (at + 1) mode.under o) h ∙ by_deed (one (figure_in w) 1 mode.under) (rw q)
 
-    pub told_capital : d ≡ act.capital_of_many → (p : ℕ) → p ≡ capital_in w → variant.Sign no_point p (at + 1) mode.whole2 o ≡ step_at row at m o
-    told_capital q p h = ap (λ (n : ℕ). variant.Sign no_point n (at + 1) mode.whole2 o) h ∙ by_deed (one (capital_in w) 1 mode.whole2) (rw q)
+    pub told_capital : d ≡ act.capital_of_many → (p : ℕ) → p ≡ capital_in w → gives no_point p (at + 1) mode.whole2 o ≡ step_at row at m o
+    told_capital q p h = ap (λ (n : ℕ). gives no_point n (at + 1) mode.whole2 o) h ∙ by_deed (one (capital_in w) 1 mode.whole2) (rw q)
 
-    pub told_lower : d ≡ act.lower_digit → (p : ℕ) → p ≡ lower_in w → variant.Sign no_point p (at + 1) mode.low o ≡ step_at row at m o
-    told_lower q p h = ap (λ (n : ℕ). variant.Sign no_point n (at + 1) mode.low o) h ∙ by_deed (one (lower_in w) 1 mode.low) (rw q)
+    pub told_lower : d ≡ act.lower_digit → (p : ℕ) → p ≡ lower_in w → gives no_point p (at + 1) mode.low o ≡ step_at row at m o
+    told_lower q p h = ap (λ (n : ℕ). gives no_point n (at + 1) mode.low o) h ∙ by_deed (one (lower_in w) 1 mode.low) (rw q)
 
-    pub told_denominator : d ≡ act.denominator → (p : ℕ) → p ≡ figure_in w → variant.Sign (code "⁄") p (at + 1) mode.under o ≡ step_at row at m o
-    told_denominator q p h = ap (λ (n : ℕ). variant.Sign (code "⁄") n (at + 1) mode.under o) h ∙ by_deed (reads (code "⁄") (figure_in w) 1 mode.under) (rw q)
+    pub told_denominator : d ≡ act.denominator → (p : ℕ) → p ≡ figure_in w → gives (code "⁄") p (at + 1) mode.under o ≡ step_at row at m o
+    told_denominator q p h = ap (λ (n : ℕ). gives (code "⁄") n (at + 1) mode.under o) h ∙ by_deed (reads (code "⁄") (figure_in w) 1 mode.under) (rw q)
 
-    pub told_masculine : d ≡ act.masculine_mark → variant.Sign (code ".") (code "º") (at + 1) mode.free o ≡ step_at row at m o
+    pub told_masculine : d ≡ act.masculine_mark → gives (code ".") (code "º") (at + 1) mode.free o ≡ step_at row at m o
     told_masculine q = by_deed (reads (code ".") (code "º") 1 mode.free) (rw q)
-
-    pub told_question : Rest Unit (keys_of (once_list w)) d → (s : Step)
-        → s ≡ step_of at o (asked_by m d w (cell_of row (at + 1)) (cell_of row (at + 2))) → s ≡ step_at row at m o
-    told_question r s h =
-        h ∙ by_deed (asked_by m d w (cell_of row (at + 1)) (cell_of row (at + 2)))
-        (chosen_rest (once_list w) d (asked_by m d w (cell_of row (at + 1)) (cell_of row (at + 2))) r)
 
 -- what `usual` returns
 module _ (w at o : ℕ) where
-  pub usual_mark : point_in w ≡ no_point → (k : ℕ) → k ≡ kind_in w → mark_step (at + 1) o k ≡ step_of at o (usual_by w)
-  usual_mark e k h = ap (mark_step (at + 1) o) h ∙ sym (rw (eq-eqb (point_in w) no_point e))
-
-  pub usual_sign : (p t : ℕ) → p ≡ point_in w → t ≡ then_in w → (p ≡ no_point → ⊥) → variant.Sign no_point p (at + 1) t o ≡ step_of at o (usual_by w)
+  pub usual_sign : (p t : ℕ) → p ≡ point_in w → t ≡ then_in w → (p ≡ no_point → ⊥) → gives no_point p (at + 1) t o ≡ step_of at o (usual_by w)
   usual_sign p t e f n = rw (ne_eqb (point_in w) no_point (λ q. n (e ∙ q)), e, f)
 
 -- A CELL THAT IS ALONE: its bit tells that it is, and that of a letter the mode behind it
@@ -421,7 +314,7 @@ three false b d e = absurd (true≢false (sym e))
 
 -- such a cell is its code point, where nothing is begun and in a run with a small letter
 pub alone_step : (row : Row) (at m o : ℕ) → at < length row → alone_cell (get_or row at 0) ≡ true → (m ≡ mode.free) ⊎ (m ≡ mode.mixed)
-    → step_at row at m o ≡ variant.Sign no_point (point_in (word_of (get_or row at 0))) (at + 1) (then_in (word_of (get_or row at 0))) o
+    → step_at row at m o ≡ gives no_point (point_in (word_of (get_or row at 0))) (at + 1) (then_in (word_of (get_or row at 0))) o
 alone_step row at m o inside alone here =
     sym
     (usual_sign w at o (point_in w) (then_in w) refl refl (has_some (point_in w) parts.2)
@@ -491,7 +384,7 @@ module _ (row : Row) (at m o p run : ℕ) (small : m < mode_count) (inside : at 
       let b = both (eqb (run_point (word_of (cell_of row at)) (run_of m)) its_point) (eqb (home_of m) its_mode) a.1 in
       (eqb→eq (deed_of m (class_in (word_of (cell_of row at)))) its_deed a.0, point_is ∙ eqb→eq (run_point (word_of (cell_of row at)) (run_of m)) its_point b.0, eqb→eq (home_of m) its_mode b.1)
 
-  pub run_step : variant.Sign no_point p (at + 1) (home_of m) o ≡ step_at row at m o
+  pub run_step : gives no_point p (at + 1) (home_of m) o ≡ step_at row at m o
   run_step =
       ⊎_elim (λ t. absurd (omega (arith, leb-true no_run (run_of m) (is_true (leb no_run (run_of m)) t), is_run, some_run)))
       (λ t. ⊎_elim (λ k. absurd (a_point (point_is ∙ eqb→eq (run_point w (run_of m)) no_point k)))
@@ -500,8 +393,8 @@ module _ (row : Row) (at m o p run : ℕ) (small : m < mode_count) (inside : at 
       (either (leb no_run (run_of m)) (eqb (run_point w (run_of m)) no_point || (not (usual_in w m) && run_told m w (run_point w (run_of m))))
       (at_below (λ m. run_test m w) mode_count (at_below (λ x. below (λ m. run_test m (word_of x)) mode_count) sights runs_right (cell_of row at) (sight_small (get_or row at no_cell))) m small))
     where
-      mode_is : (k : ℕ) → home_of m ≡ k → variant.Sign no_point p (at + 1) (home_of m) o ≡ variant.Sign no_point p (at + 1) k o
-      mode_is k e = ap (λ (n : ℕ). variant.Sign no_point p (at + 1) n o) e
+      mode_is : (k : ℕ) → home_of m ≡ k → gives no_point p (at + 1) (home_of m) o ≡ gives no_point p (at + 1) k o
+      mode_is k e = ap (λ (n : ℕ). gives no_point p (at + 1) n o) e
 
       not_usual : T (not (usual_in (word_of (cell_of row at)) m)) → usual_in (word_of (cell_of row at)) m ≡ false
       not_usual t = go (usual_in (word_of (cell_of row at)) m) t
@@ -520,7 +413,7 @@ module _ (row : Row) (at m o p run : ℕ) (small : m < mode_count) (inside : at 
       home = home_of m
 
       by_run : T (not (usual_in (word_of (cell_of row at)) m)) × T (run_told m (word_of (cell_of row at)) (run_point (word_of (cell_of row at)) (run_of m)))
-          → variant.Sign no_point p (at + 1) (home_of m) o ≡ step_at row at m o
+          → gives no_point p (at + 1) (home_of m) o ≡ step_at row at m o
       by_run (u, t) =
           ⊎_elim
           (λ k. let h = is_told act.digit (figure_in (word_of (cell_of row at))) mode.num k in
@@ -556,7 +449,7 @@ unfolding words deeds
 between_told c n = has_field (λ w. run_point w between) refl between_test tt c n
 
 pub point_step : (row : Row) (at o p : ℕ) → p ≡ run_point (word_of (cell_of row at)) between → (p ≡ no_point → ⊥) → digit_cell (cell_of row (at + 1)) ≡ true
-    → variant.Sign no_point p (at + 1) mode.mid o ≡ step_at row at mode.num o
+    → gives no_point p (at + 1) mode.mid o ≡ step_at row at mode.num o
 point_step row at o p e n f =
     let w : ℕ = word_of (cell_of row at) in
     let t = both (not (usual_in w mode.num)) (eqb act.point (deed_of mode.num (class_in w)) && eqb (run_point w between) (point_in w))
@@ -566,20 +459,20 @@ point_step row at o p e n f =
     ∙ by_deed row at mode.num o w refl (not-true (usual_in w mode.num) (is_true (not (usual_in w mode.num)) t.0)) act.point
     (eqb→eq act.point (deed_of mode.num (class_in w)) u.0) (asked_by mode.num act.point w (cell_of row (at + 1)) (cell_of row (at + 2))) refl
 
-pub in_number : (row : Row) (at m o : ℕ) (s : Step) → m ≡ mode.num → Quick row at mode.num mode.mid o s → InRun row at m o s
+pub in_number : (row : Row) (at m o : ℕ) (s : Option Step) → m ≡ mode.num → Quick row at mode.num mode.mid o s → InRun row at m o s
 unfolding run_of
 in_number row at m o s e q = (mode.mid, ap run_of (sym e), subst (λ (n : ℕ). Quick row at n mode.mid o s) (sym e) q)
 
 -- U+2014 behind another; a capital with its 46 behind another
 pub dash_step : (row : Row) (at o : ℕ) → cell_of row at ≡ dots 36 → cell_of row (at + 1) ≡ dots 36
-    → variant.Sign no_point (code "—") (at + 2) mode.dash o ≡ step_at row at mode.dash o
+    → gives no_point (code "—") (at + 2) mode.dash o ≡ step_at row at mode.dash o
 unfolding step_at reading_of by_word asked_by words deeds dots
 dash_step row at o e f =
     sym (ap (λ (x : ℕ). step_of at o (reading_of mode.dash x (cell_of row (at + 1)) (cell_of row (at + 2)))) e
     ∙ ap (λ (y : ℕ). step_of at o (reading_of mode.dash (dots 36) y (cell_of row (at + 2)))) f)
 
 pub owed_step : (row : Row) (at o p : ℕ) → cell_of row at ≡ dots 46 → p ≡ capital_in (word_of (cell_of row (at + 1))) → (p ≡ no_point → ⊥)
-    → variant.Sign no_point p (at + 2) mode.owing o ≡ step_at row at mode.owing o
+    → gives no_point p (at + 2) mode.owing o ≡ step_at row at mode.owing o
 unfolding step_at reading_of by_word asked_by capital_by after_capital words deeds dots
 owed_step row at o p e f n =
     sym (ap (λ (x : ℕ). step_of at o (reading_of mode.owing x (cell_of row (at + 1)) (cell_of row (at + 2)))) e

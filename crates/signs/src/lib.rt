@@ -4,42 +4,38 @@
 // a word and where nothing is begun, a bit tells it (`is_alone`, `mode_behind`).
 #![tactic(auto)]
 
-ghost use Rattle.std.specs.Prelude.{true, false, ◌≡◌, ◌+◌, ◌<◌, ◌≤◌, length, get_or};
+ghost use Rattle.std.specs.Prelude.{Some, None, cond, eqb, true, false, ◌≡◌, ◌+◌, ◌<◌, ◌≤◌, length, get_or};
 ghost use Rattle.rules.specs.Cells.{last_cell};
 ghost use Rattle.rules.specs.Pairs.{kinds};
 ghost use Rattle.rules.specs.Refusals.{longest_row};
 ghost use Rattle.rules.proofs.Machine.{at_rest};
 ghost use Rattle.pairs.specs.Opened.{open_states};
-ghost use Rattle.readings.specs.Modes.{mode_of, mode_count, owing, num, mid, dash};
+ghost use Rattle.readings.specs.Modes.{mode_of, number_of, mode_at, free, owing, num, mid, dash};
+ghost use Rattle.readings.specs.Acts.{deed_number};
 ghost use Rattle.readings.specs.Fields.{point_in, kind_in, then_in, usual_in, field_in, run_point, no_cell, cell_of};
 ghost use Rattle.readings.specs.Words.{word_of};
-ghost use Rattle.readings.specs.Readings.{no_point, usual_by, mark_step, digit_cell, step_of, after_capital, capital_by, number_by, percent_by, prefix_by, asked_by, step_at};
+ghost use Rattle.readings.specs.Readings.{no_point, shown, a_step, usual_by, mark_step, digit_cell, step_of, after_capital, capital_by, number_by, percent_by, prefix_by, asked_by, step_at};
 ghost use Rattle.signs.specs.Among.{cell_among, lower_cell, alone_cell};
-ghost use Rattle.signs.specs.Runs.{between, no_run, run_of, home_of, Quick, InRun};
+ghost use Rattle.signs.specs.Runs.{between, no_run, field_of, run_of, home_of, Quick, InRun};
 
 use readings::cells::{
     D1, D2, D12, D14, D15, D23, D24, D25, D26, D35, D36, D46, D124, D125, D145, D235, D236, D245,
     D256, D356, D1245, D2356, LETTERS_ALONE, SIGNS_ALONE,
 };
 use readings::{
-    CAPITAL, CAPITAL_OF_MANY, DASH, DASH_ONLY, DENOMINATOR, DIGIT, DIGIT_UNDER, END, FEM, FREE,
-    HYPHEN, HYPHEN_OR_DASH, INNER_QUOTES, LONE, LOW, LOWER_DIGIT, MASCULINE_MARK, MID, MIXED,
-    MODE_PLACES, NO_POINT, NO_SIGN, NUM, NUMBER_SIGN, ONE_OR_FEMININE, OWING, PERCENT, POINT,
-    POINT_BITS, POINT_PLACES, SEPARATES, Step, UNDER, UNDER1, WHOLE1, WHOLE2, capital_in, cells,
-    class_in, closer_of, deed_of, figure_in, kind_in, lower_in, opener_of, point_in, then_in,
+    Deed, INNER_QUOTES, Mode, POINT_BITS, POINT_PLACES, Step, capital_in, cells, class_in,
+    closer_of, deed_of, figure_in, kind_in, lower_in, mode_at, opener_of, point_in, shown, then_in,
 };
 
 // How many bits a cell's word has.
 const WORD_BITS: usize = 64;
 
-// Where the field of a run stands (readings/src/cells.rt); NO_RUN where the mode is in none.
+// Where the field of a run stands (readings/src/cells.rt).
 const FIGURES: usize = 0;
 
 const CAPITALS: usize = 16;
 
 const LOWERS: usize = 32;
-
-pub const NO_RUN: usize = 64;
 
 // And where that of the points and commas between two digits stands.
 const BETWEEN: usize = 48;
@@ -67,22 +63,24 @@ const LOWER_CELLS: u64 = (1 << D2)
     + (1 << D35)
     + (1 << D356);
 
-// How many bits a mode has.
+// How many modes there are, and how many bits the number of one has.
+const MODES: usize = 16;
+
 const MODE_BITS: usize = 4;
 
-// The mode after a capital that has a 46 of its own, for each mode before it: LONE where a run begins, and none (FREE) where no such capital stands. (As one
-// number, since of a `match` the compiler would make jumps, which the processor cannot foresee.)
-const AFTER_CAPITAL: u64 = ((LONE as u64) << (FREE * MODE_BITS))
-    + ((OWING as u64) << (LONE * MODE_BITS))
-    + ((MIXED as u64) << (MIXED * MODE_BITS))
-    + ((LONE as u64) << (END * MODE_BITS))
-    + ((LONE as u64) << (HYPHEN * MODE_BITS))
-    + ((LONE as u64) << (FEM * MODE_BITS))
-    + ((LONE as u64) << (PERCENT * MODE_BITS))
-    + ((OWING as u64) << (OWING * MODE_BITS))
-    + ((LONE as u64) << (DASH * MODE_BITS))
-    + ((LONE as u64) << (NUM * MODE_BITS))
-    + ((LONE as u64) << (UNDER * MODE_BITS));
+// The mode after a capital that has a 46 of its own, for each mode before it: `Lone` where a run begins, and 0, which is `Free`, where no such capital stands.
+// (As one number, since of a `match` the compiler would make jumps, which the processor cannot foresee.)
+const AFTER_CAPITAL: u64 = ((Mode::Lone as u64) << (Mode::Free as usize * MODE_BITS))
+    + ((Mode::Owing as u64) << (Mode::Lone as usize * MODE_BITS))
+    + ((Mode::Mixed as u64) << (Mode::Mixed as usize * MODE_BITS))
+    + ((Mode::Lone as u64) << (Mode::End as usize * MODE_BITS))
+    + ((Mode::Lone as u64) << (Mode::Hyphen as usize * MODE_BITS))
+    + ((Mode::Lone as u64) << (Mode::Fem as usize * MODE_BITS))
+    + ((Mode::Lone as u64) << (Mode::Percent as usize * MODE_BITS))
+    + ((Mode::Owing as u64) << (Mode::Owing as usize * MODE_BITS))
+    + ((Mode::Lone as u64) << (Mode::Dash as usize * MODE_BITS))
+    + ((Mode::Lone as u64) << (Mode::Num as usize * MODE_BITS))
+    + ((Mode::Lone as u64) << (Mode::Under as usize * MODE_BITS));
 
 // A lower digit is its digit with every dot a row lower, which counts twice as much: 14 counts 9, and 25 counts 18.
 const LOWERED: u8 = 2;
@@ -116,11 +114,11 @@ const OPENING_QUOTE: u32 = 0x2018; // ‘
 
 const PER_MILLE: u32 = 0x2030; // ‰
 
-// Is it read as usual in this mode? (A mode is below 16, so that the remainder is the mode.)
-pub fn is_usual(word: u64, mode: usize) -> bool
-    ensures { result ≡ usual_in word mode }
+// Is it read as usual in this mode?
+pub fn is_usual(word: u64, mode: Mode) -> bool
+    ensures { result ≡ usual_in word (number_of mode) }
 {
-    (word >> (mode % WORD_BITS)) % 2 == 1
+    (word >> mode.number()) % 2 == 1
 }
 
 // The cell at a place, and NO_CELL past the row's end or where the byte is no cell: no caller tests the length.
@@ -147,11 +145,11 @@ fn byte_at(row: &[u8], place: usize) -> u8
 }
 
 // A sign of one code point.
-fn sign(point: u32, next: usize, mode: usize, opened: usize) -> Step
-    ensures { result ≡ Step.Sign no_point point next mode opened }
+fn sign(point: u32, next: usize, mode: Mode, opened: usize) -> Step
+    ensures { result ≡ a_step no_point point next (number_of mode) opened }
 {
-    Step::Sign {
-        lead: NO_POINT,
+    Step {
+        lead: None,
         point,
         next,
         mode,
@@ -164,10 +162,12 @@ fn mark(kind: usize, next: usize, opened: usize) -> Step
     requires { (kind < kinds) × (opened < open_states) }
     ensures { result ≡ mark_step next opened kind }
 {
-    if pairs::is_open(opened, kind) {
-        return sign(closer_of(kind), next, FREE, pairs::turned(opened, kind));
-    }
-    sign(opener_of(kind), next, FREE, pairs::turned(opened, kind))
+    let point = if pairs::is_open(opened, kind) {
+        closer_of(kind)
+    } else {
+        opener_of(kind)
+    };
+    sign(point, next, Mode::Free, pairs::turned(opened, kind))
 }
 
 // Is the cell one of these? (To compare what a look-up gives with NO_POINT would be compiled to a jump for each cell.)
@@ -204,157 +204,165 @@ pub fn is_alone(cell: u8) -> bool
 }
 
 // The mode behind such a cell.
-pub fn mode_behind(cell: u8) -> usize
+pub fn mode_behind(cell: u8) -> Mode
     requires { (cell ≤ last_cell) × (alone_cell cell ≡ true) }
-    ensures { result ≡ then_in (word_of cell) }
+    ensures { number_of result ≡ then_in (word_of cell) }
 {
     if (LETTERS_ALONE >> (cell as usize % WORD_BITS)) % 2 == 1 {
-        return MIXED;
+        Mode::Mixed
+    } else {
+        Mode::Free
     }
-    FREE
 }
 
-// The mode after a capital that has a 46 of its own.
-fn after_capital(mode: usize) -> usize
-    ensures { result ≡ after_capital mode }
+// The mode after a capital that has a 46 of its own, where such a one stands.
+fn after_capital(mode: Mode) -> Option<Mode>
+    ensures { result ≡ cond (eqb (after_capital (number_of mode)) free) None (Some (mode_at (after_capital (number_of mode)))) }
 {
-    (AFTER_CAPITAL >> (mode % MODE_PLACES * MODE_BITS)) as usize % MODE_PLACES
+    match mode_at((AFTER_CAPITAL >> (mode.number() * MODE_BITS)) as usize % MODES) {
+        Mode::Free => None,
+        after => Some(after),
+    }
 }
 
 // After 46: a letter is a capital, and the mode before says the mode after it; where a run begins, 46 again and a letter begin one of capitals only; 2 makes >,
 // where no small letter is owed. (The capital is looked up in one place, so that the compiler draws the look-up in.)
-fn capital(row: &[u8], at: usize, mode: usize, opened: usize) -> Step
+#[tactic(auto, using(crate::proofs::Cases::none_shown, crate::proofs::Cases::some_shown), unfolding(readings::specs::Readings::capital_by, rules::specs::Cells::dots))]
+fn capital(row: &[u8], at: usize, mode: Mode, opened: usize) -> Option<Step>
     requires { (length row.now ≤ longest_row) × (at < length row.now) }
-    ensures { result ≡ step_of at opened (capital_by mode (cell_of row.now (at + 1)) (cell_of row.now (at + 2))) }
+    ensures { result ≡ step_of at opened (capital_by (number_of mode) (cell_of row.now (at + 1)) (cell_of row.now (at + 2))) }
 {
     let second = cell_at(row, at + 1);
     if second == D2 {
-        if mode == OWING {
-            return Step::Nothing;
+        if mode == Mode::Owing {
+            return None;
         }
-        return sign(GREATER, at + 2, FREE, opened);
+        return Some(sign(GREATER, at + 2, Mode::Free, opened));
     }
-    let after = after_capital(mode);
     let letter_at = if second == D46 { at + 2 } else { at + 1 };
-    let letter = cells::capital_of(cell_at(row, letter_at));
-    if letter == NO_POINT {
-        return Step::Nothing;
+    let letter = shown(capital_in(word_of(cell_at(row, letter_at))))?;
+    let after = after_capital(mode)?;
+    if second != D46 {
+        return Some(sign(letter, at + 2, after, opened));
     }
-    if second == D46 {
-        if after == LONE {
-            return sign(letter, at + 3, WHOLE1, opened);
-        }
-        return Step::Nothing;
+    if after == Mode::Lone {
+        return Some(sign(letter, at + 3, Mode::Whole1, opened));
     }
-    if after == FREE {
-        return Step::Nothing;
-    }
-    sign(letter, at + 2, after, opened)
+    None
 }
 
 // After 3456: a digit begins a number, a lower digit an ordinal or a fraction. (Both are looked up in one table, so that there is no jump for the
 // processor to foresee.)
-fn number(row: &[u8], at: usize, opened: usize) -> Step
+#[tactic(auto, using(crate::proofs::Cases::figure_lowered), unfolding(readings::specs::Readings::number_by))]
+fn number(row: &[u8], at: usize, opened: usize) -> Option<Step>
     requires { (length row.now ≤ longest_row) × (at < length row.now) }
     ensures { result ≡ step_of at opened (number_by (word_of (cell_of row.now (at + 1)))) }
 {
     let second = cell_at(row, at + 1);
     if is_digit(second) {
-        return sign(cells::inside_number(second), at + 2, NUM, opened);
+        return Some(sign(figure_in(word_of(second)), at + 2, Mode::Num, opened));
     }
     if is_lower(second) {
-        return sign(cells::inside_number(second / LOWERED), at + 2, LOW, opened);
+        return Some(sign(
+            figure_in(word_of(second / LOWERED)),
+            at + 2,
+            Mode::Low,
+            opened,
+        ));
     }
-    Step::Nothing
+    None
 }
 
 // After 456-356: 356 again makes ‰.
+#[tactic(auto, unfolding(readings::specs::Readings::percent_by, rules::specs::Cells::dots))]
 fn percent(row: &[u8], at: usize, opened: usize) -> Step
     requires { (length row.now ≤ longest_row) × (at < length row.now) }
-    ensures { result ≡ step_of at opened (percent_by (cell_of row.now (at + 2))) }
+    ensures { Some result ≡ step_of at opened (percent_by (cell_of row.now (at + 2))) }
 {
     if cell_at(row, at + 2) == D356 {
-        return sign(PER_MILLE, at + 3, FREE, opened);
+        return sign(PER_MILLE, at + 3, Mode::Free, opened);
     }
-    sign(THE_PERCENT, at + 2, PERCENT, opened)
+    sign(THE_PERCENT, at + 2, Mode::Percent, opened)
 }
 
-// A field of 16 bits of a word: a code point, or NO_POINT. (A place is below 64, so that the remainder is the place.)
-fn field_in(word: u64, at: usize) -> u32
-    ensures { result ≡ field_in word at }
+// A field of 16 bits of a word: a code point, if it has one. (A place is below 64, so that the remainder is the place.)
+fn field_in(word: u64, at: usize) -> Option<u32>
+    ensures { result ≡ shown (field_in word at) }
 {
-    ((word >> (at % WORD_BITS)) % POINT_PLACES) as u32
+    shown(((word >> (at % WORD_BITS)) % POINT_PLACES) as u32)
 }
 
 // A sign that begins with a cell that is none by itself and whose word is at hand. "A lower-case a to j directly after a number's last digit has cell 5 before it."
 // (Of ‘ and ’, which have the same cells, the look-up has the opener.)
-fn prefixed(row: &[u8], at: usize, word: u64, deed: usize, opened: usize) -> Step
+#[tactic(auto, using(crate::proofs::Cases::none_shown, crate::proofs::Cases::some_shown), unfolding(readings::specs::Readings::prefix_by, readings::specs::Readings::longer_by, readings::specs::Readings::two_of))]
+fn prefixed(row: &[u8], at: usize, word: u64, deed: Deed, opened: usize) -> Option<Step>
     requires { (length row.now ≤ longest_row) × (at < length row.now) × (opened < open_states) }
-    ensures { result ≡ step_of at opened (prefix_by deed word (cell_of row.now (at + 1)) (cell_of row.now (at + 2))) }
+    ensures { result ≡ step_of at opened (prefix_by (deed_number deed) word (cell_of row.now (at + 1)) (cell_of row.now (at + 2))) }
 {
     let second = cell_at(row, at + 1);
-    if deed == SEPARATES {
+    if deed == Deed::Separates {
         if is_digit(second) {
-            return sign(cells::letter_of(second), at + 2, MIXED, opened);
+            return Some(sign(point_in(word_of(second)), at + 2, Mode::Mixed, opened));
         }
     }
-    let point = field_in(cells::second_word(second), kind_in(word) * POINT_BITS);
-    match point {
-        NO_POINT => Step::Nothing,
+    let point = field_in(cells::second_word(second), kind_in(word) * POINT_BITS)?;
+    Some(match point {
         THE_PERCENT => percent(row, at, opened),
         OPENING_QUOTE => mark(INNER_QUOTES, at + 2, opened),
-        _ => sign(point, at + 2, FREE, opened),
-    }
+        _ => sign(point, at + 2, Mode::Free, opened),
+    })
 }
 
 // What the cells that follow decide; `word` is that of the cell at the place.
-fn asked(row: &[u8], at: usize, word: u64, mode: usize, deed: usize, opened: usize) -> Step
+#[tactic(auto, unfolding(readings::specs::Readings::asked_by, rules::specs::Cells::dots))]
+fn asked(row: &[u8], at: usize, word: u64, mode: Mode, deed: Deed, opened: usize) -> Option<Step>
     requires { (length row.now ≤ longest_row) × (at < length row.now) × (opened < open_states) }
-    ensures { result ≡ step_of at opened (asked_by mode deed word (cell_of row.now (at + 1)) (cell_of row.now (at + 2))) }
+    ensures { result ≡ step_of at opened (asked_by (number_of mode) (deed_number deed) word (cell_of row.now (at + 1)) (cell_of row.now (at + 2))) }
 {
     match deed {
-        POINT => {
-            if is_digit(cell_at(row, at + 1)) {
-                sign(point_in(word), at + 1, MID, opened)
+        Deed::Point => {
+            let mode_after = if is_digit(cell_at(row, at + 1)) {
+                Mode::Mid
             } else {
-                sign(point_in(word), at + 1, END, opened)
-            }
+                Mode::End
+            };
+            Some(sign(point_in(word), at + 1, mode_after, opened))
         }
-        ONE_OR_FEMININE => {
+        Deed::OneOrFeminine => {
             if is_digit(cell_at(row, at + 1)) {
-                Step::Sign {
-                    lead: BAR,
+                Some(Step {
+                    lead: Some(BAR),
                     point: THE_ONE,
                     next: at + 1,
-                    mode: UNDER1,
+                    mode: Mode::Under1,
                     opened,
-                }
+                })
             } else {
-                Step::Sign {
-                    lead: FULL_STOP,
+                Some(Step {
+                    lead: Some(FULL_STOP),
                     point: FEMININE,
                     next: at + 1,
-                    mode: FEM,
+                    mode: Mode::Fem,
                     opened,
-                }
+                })
             }
         }
-        HYPHEN_OR_DASH => {
+        Deed::HyphenOrDash => {
             if cell_at(row, at + 1) == D36 {
-                sign(THE_DASH, at + 2, DASH, opened)
+                Some(sign(THE_DASH, at + 2, Mode::Dash, opened))
             } else {
-                sign(THE_HYPHEN, at + 1, HYPHEN, opened)
+                Some(sign(THE_HYPHEN, at + 1, Mode::Hyphen, opened))
             }
         }
-        DASH_ONLY => {
-            if cell_at(row, at + 1) != D36 {
-                Step::Nothing
+        Deed::DashOnly => {
+            if cell_at(row, at + 1) == D36 {
+                Some(sign(THE_DASH, at + 2, Mode::Dash, opened))
             } else {
-                sign(THE_DASH, at + 2, DASH, opened)
+                None
             }
         }
-        NUMBER_SIGN => number(row, at, opened),
-        CAPITAL => capital(row, at, mode, opened),
+        Deed::NumberSign => number(row, at, opened),
+        Deed::Capital => capital(row, at, mode, opened),
         _ => prefixed(row, at, word, deed, opened),
     }
 }
@@ -369,145 +377,129 @@ pub fn word_of(cell: u8) -> u64
 // The sign of a cell that is read as usual: its small letter or sign, or its pair mark.
 pub fn usual(word: u64, at: usize, opened: usize) -> Step
     requires { (at < longest_row) × (opened < open_states) × (point_in word ≡ no_point → kind_in word < kinds) }
-    ensures { result ≡ step_of at opened (usual_by word) }
+    ensures { Some result ≡ step_of at opened (usual_by word) }
 {
-    let point = point_in(word);
-    if point == NO_POINT {
-        return mark(kind_in(word), at + 1, opened);
+    match shown(point_in(word)) {
+        Some(point) => sign(point, at + 1, then_in(word), opened),
+        None => mark(kind_in(word), at + 1, opened),
     }
-    sign(point, at + 1, then_in(word), opened)
 }
 
 // The sign that starts at a place of the row, where the cell there, whose word is at hand, is not read as usual.
-pub fn sign_at(row: &[u8], at: usize, word: u64, mode: usize, opened: usize) -> Step
-    requires { (length row.now ≤ longest_row) × (at < length row.now) × (opened < open_states) × (word ≡ word_of (cell_of row.now at)) × (usual_in word mode ≡ false) }
-    ensures { result ≡ step_at row.now at mode opened }
+pub fn sign_at(row: &[u8], at: usize, word: u64, mode: Mode, opened: usize) -> Option<Step>
+    requires { (length row.now ≤ longest_row) × (at < length row.now) × (opened < open_states) × (word ≡ word_of (cell_of row.now at)) × (usual_in word (number_of mode) ≡ false) }
+    ensures { result ≡ step_at row.now at (number_of mode) opened }
 {
     let deed = deed_of(mode, class_in(word));
     match deed {
-        NO_SIGN => Step::Nothing,
-        DIGIT => sign(figure_in(word), at + 1, NUM, opened),
-        DIGIT_UNDER => sign(figure_in(word), at + 1, UNDER, opened),
-        CAPITAL_OF_MANY => sign(capital_in(word), at + 1, WHOLE2, opened),
-        LOWER_DIGIT => sign(lower_in(word), at + 1, LOW, opened),
-        DENOMINATOR => Step::Sign {
-            lead: BAR,
+        Deed::NoSign => None,
+        Deed::Digit => Some(sign(figure_in(word), at + 1, Mode::Num, opened)),
+        Deed::DigitUnder => Some(sign(figure_in(word), at + 1, Mode::Under, opened)),
+        Deed::CapitalOfMany => Some(sign(capital_in(word), at + 1, Mode::Whole2, opened)),
+        Deed::LowerDigit => Some(sign(lower_in(word), at + 1, Mode::Low, opened)),
+        Deed::Denominator => Some(Step {
+            lead: Some(BAR),
             point: figure_in(word),
             next: at + 1,
-            mode: UNDER,
+            mode: Mode::Under,
             opened,
-        },
-        MASCULINE_MARK => Step::Sign {
-            lead: FULL_STOP,
+        }),
+        Deed::MasculineMark => Some(Step {
+            lead: Some(FULL_STOP),
             point: MASCULINE,
             next: at + 1,
-            mode: FREE,
+            mode: Mode::Free,
             opened,
-        },
+        }),
         _ => asked(row, at, word, mode, deed, opened),
     }
 }
 
-// The run that a mode is in: more of its cells may follow, each one code point. The points and commas inside a number are in its run.
-pub fn run_of(mode: usize) -> usize
-    ensures { result ≡ run_of mode }
+// The run that a mode is in, by its field: more of its cells may follow, each one code point. The points and commas inside a number are in its run.
+#[tactic(auto, unfolding(crate::specs::Runs::run_of))]
+pub fn run_of(mode: Mode) -> Option<usize>
+    ensures { result ≡ field_of (run_of (number_of mode)) }
 {
     match mode {
-        NUM => FIGURES,
-        MID => FIGURES,
-        UNDER => FIGURES,
-        WHOLE2 => CAPITALS,
-        LOW => LOWERS,
-        _ => NO_RUN,
+        Mode::Num | Mode::Mid | Mode::Under => Some(FIGURES),
+        Mode::Whole2 => Some(CAPITALS),
+        Mode::Low => Some(LOWERS),
+        _ => None,
     }
 }
 
 // The mode that a digit or a letter of its run leaves: the mode itself, and behind a point inside a number that of the number.
-fn home_of(mode: usize) -> usize
-    ensures { result ≡ home_of mode }
+#[tactic(auto, unfolding(crate::specs::Runs::home_of))]
+fn home_of(mode: Mode) -> Mode
+    ensures { number_of result ≡ home_of (number_of mode) }
 {
-    if mode == MID {
-        return NUM;
-    }
-    mode
+    if mode == Mode::Mid { Mode::Num } else { mode }
 }
 
 // A quick reading of a point or a comma behind a digit of a number: "any single full stop or comma that stands directly between two digits", so a digit has to
-// follow. Where none does, or where the cell is no such point, it says nothing.
-fn point_inside(row: &[u8], at: usize, point: u32, opened: usize) -> Step
-    requires { (length row.now ≤ longest_row) × (at < length row.now) × (point ≡ run_point (word_of (cell_of row.now at)) between) }
+// follow. Where none does it says nothing.
+#[tactic(auto, using(crate::proofs::Cases::point_step, crate::proofs::Cases::some_shown))]
+fn point_inside(row: &[u8], at: usize, point: u32, opened: usize) -> Option<Step>
+    requires { (length row.now ≤ longest_row) × (at < length row.now) × (Some point ≡ shown (run_point (word_of (cell_of row.now at)) between)) }
     ensures { Quick row.now at num mid opened result }
 {
-    if point == NO_POINT {
-        return Step::Nothing;
-    }
     let follows = cell_at(row, at + 1);
     if is_digit(follows) {
-        return sign(point, at + 1, MID, opened);
+        return Some(sign(point, at + 1, Mode::Mid, opened));
     }
-    Step::Nothing
+    None
 }
 
 // A quick reading of a cell of the run that the mode is in: a digit or a letter, or a point inside a number.
-pub fn run_at(row: &[u8], at: usize, run: usize, mode: usize, opened: usize) -> Step
-    requires { (length row.now ≤ longest_row) × (at < length row.now) × (mode < mode_count) × (run ≡ run_of mode) × (run < no_run) }
-    ensures { InRun row.now at mode opened result }
+pub fn run_at(row: &[u8], at: usize, run: usize, mode: Mode, opened: usize) -> Option<Step>
+    requires { (length row.now ≤ longest_row) × (at < length row.now) × (run ≡ run_of (number_of mode)) × (run < no_run) }
+    ensures { InRun row.now at (number_of mode) opened result }
 {
     let cell = row[at];
     if LAST_CELL < cell {
-        return Step::Nothing;
+        return None;
     }
     let word = cells::run_word(cell);
-    let point = field_in(word, run);
-    if point != NO_POINT {
-        return sign(point, at + 1, home_of(mode), opened);
+    if let Some(point) = field_in(word, run) {
+        return Some(sign(point, at + 1, home_of(mode), opened));
     }
-    if mode == NUM {
-        return point_inside(row, at, field_in(word, BETWEEN), opened);
+    match mode {
+        Mode::Num => point_inside(row, at, field_in(word, BETWEEN)?, opened),
+        _ => None,
     }
-    Step::Nothing
 }
 
 // A quick reading of U+2014 behind another.
-pub fn dash_at(row: &[u8], at: usize, opened: usize) -> Step
+#[tactic(auto, using(crate::proofs::Cases::dash_step), unfolding(rules::specs::Cells::dots))]
+pub fn dash_at(row: &[u8], at: usize, opened: usize) -> Option<Step>
     requires { (length row.now ≤ longest_row) × (at < length row.now) }
     ensures { Quick row.now at dash dash opened result }
 {
-    if cell_at(row, at) != D36 {
-        return Step::Nothing;
+    if cell_at(row, at) == D36 && cell_at(row, at + 1) == D36 {
+        return Some(sign(THE_DASH, at + 2, Mode::Dash, opened));
     }
-    if cell_at(row, at + 1) != D36 {
-        return Step::Nothing;
-    }
-    sign(THE_DASH, at + 2, DASH, opened)
+    None
 }
 
 // A quick reading of a capital with its 46 behind another.
-pub fn owed_at(row: &[u8], at: usize, opened: usize) -> Step
+pub fn owed_at(row: &[u8], at: usize, opened: usize) -> Option<Step>
     requires { (length row.now ≤ longest_row) × (at < length row.now) }
     ensures { Quick row.now at owing owing opened result }
 {
     if row[at] != D46 {
-        return Step::Nothing;
+        return None;
     }
-    let letter = cells::capital_owed(byte_at(row, at + 1));
-    if letter == NO_POINT {
-        return Step::Nothing;
-    }
-    sign(letter, at + 2, OWING, opened)
+    let letter = shown(capital_in(word_of(byte_at(row, at + 1))))?;
+    Some(sign(letter, at + 2, Mode::Owing, opened))
 }
 
 // May a text end in this mode: is what was begun whole?
-pub fn rests(mode: usize) -> bool
-    requires { mode < mode_count }
-    ensures { result ≡ at_rest (mode_of mode) }
+#[tactic(auto, unfolding(rules::proofs::Machine::at_rest))]
+pub fn rests(mode: Mode) -> bool
+    ensures { result ≡ at_rest (mode_of (number_of mode)) }
 {
     match mode {
-        OWING => false,
-        WHOLE1 => false,
-        LOW => false,
-        UNDER1 => false,
-        MID => false,
+        Mode::Owing | Mode::Whole1 | Mode::Low | Mode::Under1 | Mode::Mid => false,
         _ => true,
     }
 }

@@ -7,18 +7,16 @@ ghost use Rattle.std.specs.Prelude.{◌⊎◌, ◌≡◌, ◌+◌, ◌≤◌, �
 ghost use Rattle.rules.specs.Castilian.{castilian};
 ghost use Rattle.stepper.specs.Promise.{Shows};
 
-use reader::{Answer, LONGEST_ROW, LONGEST_TEXT, ends, reported_length, unread};
-use readings::cells::point_of;
-use readings::{FREE, NO_POINT};
-use walks::{Walked, walk};
+use reader::{LONGEST_ROW, LONGEST_TEXT, Refusal, ends, reported_length, unread};
+use readings::{NO_POINT, point_of};
+use walks::{Stand, walk};
 
-// What a step shows: the print of the sign that starts at the place, and the place after it (`lead` is NO_POINT where the sign has one code point); no code
-// point, and the place stays; or a refusal, and the place stays.
+// The sign that starts at a place: its print (`lead` is a code point that has no cell and goes before `point`, if it has one), and the place after it.
 #[derive(Clone, Copy)]
-pub enum Shown {
-    Sign { lead: u32, point: u32, next: usize },
-    Still,
-    Refused(Answer),
+pub struct Sign {
+    pub lead: Option<u32>,
+    pub point: u32,
+    pub next: usize,
 }
 
 // Up to where a step walks before the sign at its place.
@@ -32,121 +30,76 @@ fn stop_before(place: usize, end: usize) -> usize
 fn stop_behind(at: usize, place: usize, end: usize) -> usize
     ensures { ((at ≡ place) × (at < end) × (result ≡ at + 1)) ⊎ (((at ≡ place) → end ≤ at) × (result ≡ at)) }
 {
-    if at == place {
-        if at < end {
-            return at + 1;
-        }
-    }
-    at
+    if at == place && at < end { at + 1 } else { at }
 }
 
 // A row of one cell: one sign, or none.
-fn step_cell(row: &[u8], place: usize) -> Shown
+fn step_cell(row: &[u8], place: usize) -> Result<Option<Sign>, Refusal>
     requires { length row.now ≡ 1 }
     ensures { Shows castilian row.now place result }
 {
-    let point = point_of(row[0]);
-    if point == NO_POINT {
-        return Shown::Refused(unread(row, 0));
+    let Some(point) = point_of(row[0]) else {
+        return Err(unread(row, 0));
+    };
+    if place != 0 {
+        return Ok(None);
     }
-    if place == 0 {
-        return Shown::Sign {
-            lead: NO_POINT,
-            point,
-            next: 1,
-        };
-    }
-    Shown::Still
+    Ok(Some(Sign {
+        lead: None,
+        point,
+        next: 1,
+    }))
 }
 
-// Any row, walked once.
-fn step_row(row: &[u8], place: usize) -> Shown
+// Any row, walked once: up to the place, over the sign there, and to the end. What is read before and behind the sign is only counted: there is no room for it.
+fn step_row(row: &[u8], place: usize) -> Result<Option<Sign>, Refusal>
     ensures { Shows castilian row.now place result }
 {
     if LONGEST_ROW < row.len() {
-        return Shown::Refused(Answer::TooLong(reported_length(row.len())));
+        return Err(Refusal::TooLong(reported_length(row.len())));
     }
-    // what is read before and behind the sign is only counted: there is no room for it
     let mut no_room = [NO_POINT; 0];
-    let Walked::On {
-        at,
-        mode,
-        opened,
-        count: count_before,
-    } = walk(
-        row,
-        0,
-        stop_before(place, row.len()),
-        FREE,
-        0,
-        &mut no_room,
-        0,
-    )
-    else {
-        return Shown::Refused(unread(row, 0));
-    };
     let mut print = [NO_POINT; 2];
-    let Walked::On {
-        at: next,
-        mode: mode_after,
-        opened: opened_after,
-        count: width,
-    } = walk(
-        row,
-        at,
-        stop_behind(at, place, row.len()),
-        mode,
-        opened,
-        &mut print,
-        0,
-    )
-    else {
-        return Shown::Refused(unread(row, 0));
+    let Ok(before) = walk(row, Stand::at_start(), stop_before(place, row.len()), &mut no_room) else {
+        return Err(unread(row, 0));
     };
-    let Walked::On {
-        at: _,
-        mode: mode_last,
-        opened: opened_last,
-        count: count_after,
-    } = walk(
-        row,
-        next,
-        row.len(),
-        mode_after,
-        opened_after,
-        &mut no_room,
-        0,
-    )
-    else {
-        return Shown::Refused(unread(row, 0));
+    let here = Stand { count: 0, ..before };
+    let Ok(behind) = walk(row, here, stop_behind(here.at, place, row.len()), &mut print) else {
+        return Err(unread(row, 0));
     };
-    if !ends(mode_last, opened_last) {
-        return Shown::Refused(unread(row, 0));
+    let Ok(end) = walk(row, Stand { count: 0, ..behind }, row.len(), &mut no_room) else {
+        return Err(unread(row, 0));
+    };
+    if !ends(end.mode, end.opened) {
+        return Err(unread(row, 0));
     }
-    let count = count_before + width + count_after;
+    let count = before.count + behind.count + end.count;
     if LONGEST_TEXT < count {
-        return Shown::Refused(Answer::TooLong(count));
+        return Err(Refusal::TooLong(count));
     }
-    if next == at {
-        return Shown::Still;
+    if behind.at == here.at {
+        return Ok(None);
     }
-    if width == 1 {
-        return Shown::Sign {
-            lead: NO_POINT,
+    let next = behind.at;
+    Ok(Some(if behind.count == 1 {
+        Sign {
+            lead: None,
             point: print[0],
             next,
-        };
-    }
-    Shown::Sign {
-        lead: print[0],
-        point: print[1],
-        next,
-    }
+        }
+    } else {
+        Sign {
+            lead: Some(print[0]),
+            point: print[1],
+            next,
+        }
+    }))
 }
 
-// The proofing screen's step: "What a step gives follows from the row and the place alone." A row is walked once, and one of one cell not at all.
+// The proofing screen's step: "What a step gives follows from the row and the place alone." What starts at the place, if a sign does; or why the row is refused. A row is walked once, and
+// one of one cell not at all.
 // Two wrong programs that the promise shuts out: one that shows a sign of a row that is not accepted, and one that shows the print of the sign before.
-pub fn step(row: &[u8], place: usize) -> Shown
+pub fn step(row: &[u8], place: usize) -> Result<Option<Sign>, Refusal>
     ensures { Shows castilian row.now place result }
 {
     if row.len() == 1 {

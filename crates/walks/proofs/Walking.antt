@@ -1,38 +1,42 @@
--- Signs one after another (`Leads`). In order: signs joined; a turn more; a walk in the middle of a part (`Mid`), and its ends; a quick reading; cells that are
+-- Signs one after another (`Leads`). In order: signs joined; a turn more; a walk in the middle of a part (`Runs`); what a stretch found; a quick reading; cells that are
 -- only counted; the sign at a place of signs joined. Assumes nothing.
 use mathlib.Core.Path.{◌≡◌, refl, sym, ap, ◌∙◌, subst}
-use mathlib.Core.Bool.{Bool, true, false, cond}
+use mathlib.Core.Bool.{Bool, true, false, cond, true≢false}
 use mathlib.Core.List.{List, [], ◌∷◌, ◌++◌, append_assoc, append-nil}
 use mathlib.Core.Logic.{◌⊎◌, inl, inr, ⊎_elim}
 use mathlib.Core.Option.{Option, none, some}
 use Prim.Native.Nat.{ℕ, zero, suc, ◌+◌, ◌-◌, ◌*◌, ◌≤◌, ◌<◌, zero-le}
 use native.Mathlib.Omega.{arith}
 use native.Mathlib.Nat.{add-zero}
-use lib.Dec.{eqb, leb}
+use lib.Dec.{T, eqb, leb}
 use lib.ListN.{length, drop, get_or, length-append}
-use borrow.Author.Tests.{eq-eqb, ne_eqb, le-leb, lt-leb}
+use borrow.Author.Tests.{eq-eqb, ne_eqb, le-leb, lt-leb, leb-true}
 use Rattle.rules.specs.Cells.{Row}
 use Rattle.rules.specs.Signs.{Sign, print_of, cells_of}
 use Rattle.rules.specs.Screen.{sign_at}
 use Rattle.rules.specs.Refusals.{longest_row}
-use Rattle.rules.proofs.Finite.{le_or_lt}
+use Rattle.rules.proofs.Finite.{le_or_lt, below, at_below}
+use Rattle.readings.proofs.Settling.{is_true}
 use Rattle.pairs.specs.Opened.{open_states}
-use Rattle.readings.specs.Modes.{mode_count, free, mixed}
-use Rattle.readings.specs.Fields.{point_in, then_in, kind_in}
+use Rattle.readings.specs.Modes.{mode_count, number_of, free, mixed, owing, dash, whole2, num, low, under, mid}
+use Rattle.readings.specs.Fields.{point_in, then_in, kind_in, usual_in}
 use Rattle.readings.specs.Words.{word_of}
-use Rattle.readings.specs.Readings.{no_point, step_of, usual_by, a_mark, one}
+use Rattle.readings.specs.Readings.{no_point, a_step, step_of, step_at, usual_by, a_mark, one}
 use Rattle.readings.specs.Left.{left, add_sign}
 use Rattle.readings.specs.Print.{points}
 use Rattle.signs.specs.Among.{alone_cell}
-use Rattle.signs.specs.Runs.{run_of, Quick, InRun}
-use Rattle.signs.proofs.Cases.{alone_modes, alone_step}
+use Rattle.signs.specs.Runs.{no_run, run_of, field_of, Quick, InRun}
+use Rattle.signs.proofs.Cases.{alone_modes, alone_step, as_usual_lem, word_there}
 use Rattle.readings.specs.declared.Step.{Step}
-use Rattle.readings.specs.declared.Step.TheVariants as step
-use Rattle.readings.proofs.Turning.{Turn, turn_of}
-use Rattle.walks.specs.Walks.{Wrote, Room, RoomLeft, room_left, Strides, strides_on, strides_nowhere, most_points, add_signs, Starts, CellsFrom, Leads, Runs, runs_on, Goes, goes_on, goes_nowhere, AllCells, Alone, Tallied}
-use Rattle.walks.specs.declared.Walked.{Walked}
-use Rattle.walks.specs.declared.Walked.TheVariants.{On, Nowhere}
-use Rattle.readings.proofs.Print.{points_width, points_one}
+use Rattle.readings.specs.declared.Mode.{Mode}
+use Rattle.std.specs.declared.option.Option as rust
+use Rattle.std.specs.Prelude.{Some, None, Result, Ok, Err}
+use Rattle.readings.proofs.Turning.{Turn, turn_of, none_left}
+use Rattle.readings.proofs.Numbers.{number_back, number_small}
+use Rattle.walks.specs.Walks.{Wrote, Room, Stands, uncounted, Kin, Alike, Strides, strides_on, strides_nowhere, most_points, add_signs, Starts, CellsFrom, Leads, Runs, Goes, goes_on, goes_nowhere, AllCells, Alone, Tallied}
+use Rattle.walks.specs.declared.Stand.{Stand}
+use Rattle.walks.specs.declared.NoText.{NoText}
+use Rattle.readings.proofs.Print.{points_width}
 use Rattle.walks.proofs.Writing.{wrote_none, wrote_on, wrote_full}
 
 -- SIGNS JOINED
@@ -86,7 +90,7 @@ leads_none row stop at m o h f g =
       opens = g;
     }
 
-leads_one : {row : Row} {stop at m o l p k n u : ℕ} → at < stop → (turn : Turn row at m o l p k n u) → Leads row stop at m o k n u (turn.sign ∷ [])
+leads_one : {row : Row} {stop at m o : ℕ} {l : rust.Option ℕ} {p k n u : ℕ} → at < stop → (turn : Turn row at m o l p k n u) → Leads row stop at m o k n u (turn.sign ∷ [])
 leads_one {l = l} {p = p} h turn =
     record {
       left_is = turn.signs_left;
@@ -118,7 +122,7 @@ module _ {row : Row} {stop from m₀ o₀ at m o : ℕ} {ss : List Sign} (leads 
       }
 
   -- a turn more, and how many code points there are then
-  leads_turn : {l p k n u : ℕ} (turn : Turn row at m o l p k n u) → at < stop
+  leads_turn : {l : rust.Option ℕ} {p k n u : ℕ} (turn : Turn row at m o l p k n u) → at < stop
       → (xs : List Sign) × Leads row stop from m₀ o₀ k n u xs × (length (print_of xs) ≡ length (print_of ss) + length (points l p))
   leads_turn turn h =
       let s = turn.sign ∷ [] in (
@@ -142,151 +146,211 @@ module _ {row : Row} {stop from m₀ o₀ at m o : ℕ} {ss : List Sign} (leads 
   pub leads_nowhere : left m o (drop at row) ≡ none → left m₀ o₀ (drop from row) ≡ none
   leads_nowhere e = leads.left_is ∙ ap (add_signs ss) e ∙ adds_none ss
 
--- IN THE MIDDLE of a part, behind n₀ code points: the signs so far, their count, and that they are written
-pub record Mid (row : Row) (stop from m₀ o₀ n₀ : ℕ) (t₀ t : List ℕ) (m o n at : ℕ) : Type 0 where
-  pub signs : List Sign
-  pub leads : Leads row stop from m₀ o₀ at m o signs
-  pub count : n ≡ n₀ + length (print_of signs)
-  pub wrote : Wrote t₀ t n₀ (print_of signs)
+-- A RUN is of modes that are counted
+run_small : (n : ℕ) → run_of n < no_run → n < mode_count
+unfolding run_of
+run_small n some_run = ⊎_elim (λ h. absurd (omega (arith, some_run, none h))) (λ h. h) (le_or_lt mode_count n)
+  where
+    none : mode_count ≤ n → run_of n ≡ no_run
+    none h =
+        rw (
+          ne_eqb n num (λ e. omega (arith, h, e)),
+          ne_eqb n mid (λ e. omega (arith, h, e)),
+          ne_eqb n under (λ e. omega (arith, h, e)),
+          ne_eqb n whole2 (λ e. omega (arith, h, e)),
+          ne_eqb n low (λ e. omega (arith, h, e)),
+        ) refl
 
-pub mid_start : (row : Row) (stop from m o n : ℕ) (t : List ℕ) → from ≤ length row → m < mode_count → o < open_states → Mid row stop from m o n t t m o n from
-mid_start row stop from m o n t h f g =
-    record { signs = []; leads = leads_none row stop from m o h f g; count = sym (add-zero n); wrote = wrote_none t n }
+run_most : T (below (λ n. leb (run_of n) no_run) mode_count)
+unfolding run_of
+run_most = tt
 
-module _ {row : Row} {stop from m₀ o₀ n₀ m o n at : ℕ} {t₀ t : List ℕ} (mid : Mid row stop from m₀ o₀ n₀ t₀ t m o n at) where
-  pub mid_few : n₀ ≤ 2 * from → n ≤ 2 * at
-  mid_few h = omega (arith, mid.count, leads_few mid.leads, h)
+pub some_run : (m : Mode) (r : ℕ) → field_of (run_of (number_of m)) ≡ Some r → (r ≡ run_of (number_of m)) × (r < no_run)
+some_run m r = go (eqb (run_of (number_of m)) no_run) refl
+  where
+    go : (b : Bool) → eqb (run_of (number_of m)) no_run ≡ b → cond b None (Some (run_of (number_of m))) ≡ Some r → (r ≡ run_of (number_of m)) × (r < no_run)
+    go true e f = let z : ◌≡◌ {A = ℕ} 0 1 = cc in absurd (omega arith)
+    go false e f =
+        let g : run_of (number_of m) ≡ r = cc in
+        let most = leb-true (run_of (number_of m)) no_run (is_true (leb (run_of (number_of m)) no_run) (at_below (λ n. leb (run_of n) no_run) mode_count run_most (number_of m) (number_small m))) in
+        let other : run_of (number_of m) ≡ no_run → ⊥ = λ z. true≢false (sym (eq-eqb (run_of (number_of m)) no_run z) ∙ e) in
+        (sym g, omega (arith, g, most, other))
 
-  mid_most : length row ≤ longest_row → n₀ ≤ 2 * from → n ≤ most_points
-  mid_most h k = omega (arith, mid_few k, mid.leads.within)
+-- the two modes that are in none
+pub owing_alone : run_of owing ≡ no_run
+unfolding run_of
+owing_alone = refl
 
-  -- what `put` asks for, at a place before which there is room
-  pub mid_put : length row ≤ longest_row → n₀ ≤ 2 * from → (limit : ℕ) → Room limit at n (length t₀) → at < limit → (n ≤ most_points) × (n < length t)
-  mid_put h k limit room l = (mid_most h k, omega (arith, mid.wrote.0, room, l))
+pub dash_alone : run_of dash ≡ no_run
+unfolding run_of
+dash_alone = refl
 
-  -- more signs, and one
-  pub mid_join : {k n' u c : ℕ} {t' : List ℕ} → Runs row stop at m o n t t' (On k n' u c) → Mid row stop from m₀ o₀ n₀ t₀ t' n' u c k
-  mid_join {t' = t'} (runs_on xs k n' u c leads count wrote) =
-      let e = print_join mid.signs xs in
-      record {
-        signs = mid.signs ++ xs;
-        leads = leads_join mid.leads leads;
-        count = omega (arith, count, mid.count, ap length e, length-append (print_of mid.signs) (print_of xs));
-        wrote = subst (Wrote t₀ t' n₀) (sym e) (wrote_on t₀ t t' n₀ n (print_of mid.signs) (print_of xs) mid.wrote mid.count wrote);
-      }
+-- WHERE A WALK IS behind a step that gives a sign, r code points being counted then
+abbrev pub TurnOf : Row → Stand → Step → Type 0
+TurnOf row w x = Turn row w.at (number_of w.mode) w.opened x.lead x.point x.next (number_of x.mode) x.opened
 
-  pub mid_on : {l p k n' u r : ℕ} → Turn row at m o l p k n' u → at < stop → {t' : List ℕ} → (r ≡ n + length (points l p)) × Wrote t t' n (points l p)
-      → Mid row stop from m₀ o₀ n₀ t₀ t' n' u r k
-  mid_on {l} {p} {k} {n'} {u} {r} turn h {t'} put =
-      let e : points l p ≡ print_of (turn.sign ∷ []) = sym (append-nil turn.sign.shown ∙ turn.shows) in
-      mid_join
-      (runs_on (turn.sign ∷ []) k n' u r (leads_one h turn) (put.0 ∙ ap (λ (q : List ℕ). n + length q) e) (subst (Wrote t t' n) e put.1))
+abbrev pub behind : Step → ℕ → Stand
+behind x r = record { at = x.next; mode = x.mode; opened = x.opened; count = r }
 
-  pub mid_more : {t' : List ℕ} (w : Walked) → Runs row stop at m o n t t' w → {k n' u c : ℕ} → w ≡ On k n' u c → Mid row stop from m₀ o₀ n₀ t₀ t' n' u c k
-  mid_more {t'} w h e = mid_join (subst (Runs row stop at m o n t t') e h)
+-- no sign starts there
+abbrev pub Nowhere : Row → Stand → Type 0
+Nowhere row w = left (number_of w.mode) w.opened (drop w.at row) ≡ none
 
-  pub mid_runs : Runs row stop from m₀ o₀ n₀ t₀ t (On at m o n)
-  mid_runs = runs_on mid.signs at m o n mid.leads mid.count mid.wrote
+module _ (row : Row) (w : Stand) (inside : w.at < length row) (few : w.opened < open_states) where
+  pub turn_there : (x : Step) → step_at row w.at (number_of w.mode) w.opened ≡ Some x → TurnOf row w x
+  turn_there x = turn_of row w.at (number_of w.mode) w.opened inside (number_small w.mode) few x
 
-  -- a walk over a part that lies within
-  pub mid_part : {stop' : ℕ} {t' : List ℕ} (w : Walked) → stop' ≤ stop → Goes row stop' at m o n t t' w → {k n' u c : ℕ} → w ≡ On k n' u c
-      → Mid row stop from m₀ o₀ n₀ t₀ t' n' u c k × (stop' ≤ k)
-  mid_part w h (goes_on ss j m' v d leads reached count wrote) {k} e =
-      let f : j ≡ k = cc in
-      (mid_more w (runs_on ss j m' v d (leads_wider leads h) count wrote) e, omega (arith, reached, f))
-  mid_part w h (goes_nowhere j within cells none_left same) e = let z : ◌≡◌ {A = ℕ} 0 1 = cc in absurd (omega arith)
+  pub nowhere_there : step_at row w.at (number_of w.mode) w.opened ≡ None → Nowhere row w
+  nowhere_there = none_left row w.at (number_of w.mode) w.opened inside (number_small w.mode) few
 
-  pub mid_lost : {stop' : ℕ} {t' : List ℕ} (w : Walked) → Goes row stop' at m o n t t' w → {k : ℕ} → w ≡ Nowhere k
-      → (left m o (drop at row) ≡ none) × (length t' ≡ length t)
-  mid_lost w (goes_on ss j m' v d leads reached count wrote) e = let z : ◌≡◌ {A = ℕ} 0 1 = cc in absurd (omega arith)
-  mid_lost w (goes_nowhere j within cells none_left same) e = (none_left, same)
-
-  -- a stretch, and one that is only counted
-  pub mid_stride : {t' : List ℕ} (w : Walked) → Strides row stop at m o n t t' w → {k n' u c : ℕ} → w ≡ On k n' u c
-      → Mid row stop from m₀ o₀ n₀ t₀ t' n' u c k × (at < stop → at < k)
-  mid_stride w (strides_on ss j m' v d leads further count wrote) {k} e =
-      let f : j ≡ k = cc in
-      (mid_more w (runs_on ss j m' v d leads count wrote) e, λ h. omega (arith, further h, f))
-  mid_stride w (strides_nowhere j within cells none_left same) e = let z : ◌≡◌ {A = ℕ} 0 1 = cc in absurd (omega arith)
-
-  pub mid_unwritten : length t ≤ n → (w : Walked) → Strides row stop at m o 0 [] [] w → {k n' u c : ℕ} → w ≡ On k n' u c
-      → Mid row stop from m₀ o₀ n₀ t₀ t n' u (n + c) k × (at < stop → at < k)
-  mid_unwritten full w (strides_on ss j m' v d leads further count wrote) {k} e =
-      let f : j ≡ k = cc in
-      (mid_more (On j m' v (n + d)) (runs_on ss j m' v (n + d) leads (omega (arith, count)) (wrote_full t n (print_of ss) full)) cc, λ h. omega (arith, further h, f))
-  mid_unwritten full w (strides_nowhere j within cells none_left same) e = let z : ◌≡◌ {A = ℕ} 0 1 = cc in absurd (omega arith)
-
-  pub mid_strayed : {n' : ℕ} {u u' t' : List ℕ} (w : Walked) → Strides row stop at m o n' u u' w → {k : ℕ} → w ≡ Nowhere k
-      → (length u' ≡ length u → length t' ≡ length t) → Goes row stop from m₀ o₀ n₀ t₀ t' w
-  mid_strayed w (strides_on ss j m' v d leads further count wrote) e long = let z : ◌≡◌ {A = ℕ} 0 1 = cc in absurd (omega arith)
-  mid_strayed w (strides_nowhere j within cells none_left same) e long =
-      goes_nowhere j within (cells_join_on mid.leads cells) (leads_nowhere mid.leads none_left) (long same ∙ mid.wrote.0)
-
-  -- the ends of a stretch
-  pub mid_strides : (from < stop → from < at) → Strides row stop from m₀ o₀ n₀ t₀ t (On at m o n)
-  mid_strides further = strides_on mid.signs at m o n mid.leads further mid.count mid.wrote
-
-  pub mid_astray : left m o (drop at row) ≡ none → Strides row stop from m₀ o₀ n₀ t₀ t (Nowhere at)
-  mid_astray e = strides_nowhere at mid.leads.within mid.leads.cells (leads_nowhere mid.leads e) mid.wrote.0
-
-  pub mid_end : stop ≤ at → Goes row stop from m₀ o₀ n₀ t₀ t (On at m o n)
-  mid_end h = goes_on mid.signs at m o n mid.leads h mid.count mid.wrote
-
--- ROOM that is left
-pub room_of : {stop room : ℕ} (w : Walked) → RoomLeft stop room w → {k m u c : ℕ} → w ≡ On k m u c → Room stop k c room
-room_of w (room_left j m' v d h) {k} {c = c} e =
-    let f : j ≡ k = cc in
-    let g : d ≡ c = cc in
-    omega (arith, h, f, g)
-
--- of loops over signs that are alike: from the same mode, always to a place, and forward
-pub runs_from : (row : Row) (stop at o n : ℕ) {m m' : ℕ} {t t' : List ℕ} (w : Walked) → m ≡ m' → Runs row stop at m' o n t t' w → Runs row stop at m o n t t' w
-runs_from row stop at o n {t = t} {t' = t'} w e h = subst (λ (i : ℕ). Runs row stop at i o n t t' w) (sym e) h
-
-pub runs_wider : {row : Row} {stop stop' at m o n : ℕ} {t t' : List ℕ} (w : Walked) → stop ≤ stop' → Runs row stop at m o n t t' w → Runs row stop' at m o n t t' w
-runs_wider w h (runs_on ss k m' u c leads count wrote) = runs_on ss k m' u c (leads_wider leads h) count wrote
-
-pub runs_somewhere : (row : Row) (stop at m o n : ℕ) {t t' : List ℕ} (w : Walked) → Runs row stop at m o n t t' w → {j : ℕ} → w ≡ Nowhere j → ⊥
-runs_somewhere row stop at m o n w (runs_on ss k m' u c leads count wrote) e = let z : ◌≡◌ {A = ℕ} 0 1 = cc in omega arith
-
-pub runs_forward : (row : Row) (stop at m o n : ℕ) {t t' : List ℕ} (w : Walked) → Runs row stop at m o n t t' w → {k n' u c : ℕ} → w ≡ On k n' u c → at ≤ k
-runs_forward row stop at m o n w (runs_on ss j m' v d leads count wrote) {k} e = let f : j ≡ k = cc in omega (arith, leads.next_is, f)
-
--- of a stretch: the same of a text that has no room; a text stays as long as it was
-pub strides_unwritten : {row : Row} {stop at m o n : ℕ} {t t' : List ℕ} (w : Walked) → Strides row stop at m o n t t' w → Strides row stop at m o n [] [] w
-strides_unwritten {n = n} w (strides_on ss k m' u c leads further count wrote) = strides_on ss k m' u c leads further count (wrote_full [] n (print_of ss) zero-le)
-strides_unwritten w (strides_nowhere k within cells none_left same) = strides_nowhere k within cells none_left refl
-
-pub strides_same : {row : Row} {stop at m o n : ℕ} {t t' : List ℕ} (w : Walked) → Strides row stop at m o n t t' w → length t' ≡ length t
-strides_same w (strides_on ss k m' u c leads further count wrote) = wrote.0
-strides_same w (strides_nowhere k within cells none_left same) = same
-
--- A QUICK READING that gives a sign is a turn, and that of one code point; in a run the mode that it leaves is in the same run
-pub quick_turn : (row : Row) (at m m' o : ℕ) → at < length row → m < mode_count → o < open_states → (s : Step) → Quick row at m m' o s
-    → (l p k n u : ℕ) → s ≡ step.Sign l p k n u → (n ≡ m') × Turn row at m o l p k m' o × (length (points l p) ≡ 1)
-quick_turn row at m m' o inside small few s (inl e) l p k n u q = let z : ◌≡◌ {A = ℕ} 0 1 = cc in absurd (omega arith)
-quick_turn row at m m' o inside small few s (inr h) l p k n u q =
-    let e : n ≡ m' = cc in
-    let f : u ≡ o = cc in
-    let g : l ≡ no_point = cc in (
-      e,
-      turn_of row at m o inside small few l p k m' o (sym h.0 ∙ q ∙ ap (λ (i : ℕ). step.Sign l p k i u) e ∙ ap (λ (i : ℕ). step.Sign l p k m' i) f),
-      ap length (points_one l p g),
-    )
-
-pub run_turn : (row : Row) (at m o : ℕ) → at < length row → m < mode_count → o < open_states → (s : Step) → InRun row at m o s
-    → (l p k n u : ℕ) → s ≡ step.Sign l p k n u → (run_of n ≡ run_of m) × Turn row at m o l p k n o × (length (points l p) ≡ 1)
-run_turn row at m o inside small few s (m', e, h) l p k n u q =
-    let t = quick_turn row at m m' o inside small few s h l p k n u q in
-    subst (λ (i : ℕ). (run_of i ≡ run_of m) × Turn row at m o l p k i o × (length (points l p) ≡ 1)) (sym t.0) (e, t.1, t.2)
+same_step : {x y : Step} → Some x ≡ Some y → x ≡ y
+same_step e = cc
 
 -- a sign that is read as usual has one code point too
-pub usual_one : (at o w l p k n u : ℕ) → step_of at o (usual_by w) ≡ step.Sign l p k n u → length (points l p) ≡ 1
-usual_one at o w l p k n u = go (eqb (point_in w) no_point)
+usual_one : (at o w : ℕ) (x : Step) → Some x ≡ step_of at o (usual_by w) → x.lead ≡ None
+usual_one at o w x = go (eqb (point_in w) no_point)
   where
-    go : (b : Bool) → step_of at o (cond b (a_mark (kind_in w) 1) (one (point_in w) 1 (then_in w))) ≡ step.Sign l p k n u → length (points l p) ≡ 1
-    go true e = let g : l ≡ no_point = cc in ap length (points_one l p g)
-    go false e = let g : l ≡ no_point = cc in ap length (points_one l p g)
+    go : (b : Bool) → Some x ≡ step_of at o (cond b (a_mark (kind_in w) 1) (one (point_in w) 1 (then_in w))) → x.lead ≡ None
+    go true e = ap (λ (s : Step). s.lead) (same_step e)
+    go false e = ap (λ (s : Step). s.lead) (same_step e)
+
+-- IN THE MIDDLE of a part (`Runs`): the signs so far, behind those that are counted, their count, and that they are written
+pub runs_none : (row : Row) (stop : ℕ) (v : Stand) (t : List ℕ) → Stands row v → Runs row stop v t t v
+runs_none row stop v t h =
+    record {
+      signs = [];
+      leads = leads_none row stop v.at (number_of v.mode) v.opened h.1 (number_small v.mode) h.2;
+      count = sym (add-zero v.count);
+      wrote = wrote_none t v.count;
+    }
+
+module _ {row : Row} {stop : ℕ} {v w : Stand} {t₀ t : List ℕ} (mid : Runs row stop v t₀ t w) where
+  pub runs_few : v.count ≤ 2 * v.at → w.count ≤ 2 * w.at
+  runs_few h = omega (arith, mid.count, leads_few mid.leads, h)
+
+  pub runs_stands : Stands row v → Stands row w
+  runs_stands h = (h.0, mid.leads.within, mid.leads.opens, runs_few h.3)
+
+  pub runs_forward : v.at ≤ w.at
+  runs_forward = omega (arith, mid.leads.next_is)
+
+  -- what `put` asks for, at a place before which there is room
+  pub runs_put : Stands row v → (limit : ℕ) → Room limit w.at w.count (length t₀) → w.at < limit → (w.count ≤ most_points) × (w.count < length t)
+  runs_put h limit room l = (omega (arith, runs_few h.3, mid.leads.within, h.0), omega (arith, mid.wrote.0, room, l))
+
+  -- more signs, and one
+  pub runs_join : {u : Stand} {t' : List ℕ} → Runs row stop w t t' u → Runs row stop v t₀ t' u
+  runs_join {u} {t'} more =
+      let e = print_join mid.signs more.signs in
+      record {
+        signs = mid.signs ++ more.signs;
+        leads = leads_join mid.leads more.leads;
+        count = omega (arith, more.count, mid.count, ap length e, length-append (print_of mid.signs) (print_of more.signs));
+        wrote = subst (Wrote t₀ t' v.count) (sym e) (wrote_on t₀ t t' v.count w.count (print_of mid.signs) (print_of more.signs) mid.wrote mid.count more.wrote);
+      }
+
+  pub runs_turn : (x : Step) → TurnOf row w x → w.at < stop → {r : ℕ} {t' : List ℕ} → (r ≡ w.count + length (points x.lead x.point)) × Wrote t t' w.count (points x.lead x.point)
+      → Runs row stop v t₀ t' (behind x r)
+  runs_turn x turn h {r} {t'} put =
+      let e : points x.lead x.point ≡ print_of (turn.sign ∷ []) = sym (append-nil turn.sign.shown ∙ turn.shows) in
+      runs_join
+      (record {
+        signs = turn.sign ∷ [];
+        leads = leads_one h turn;
+        count = put.0 ∙ ap (λ (q : List ℕ). w.count + length q) e;
+        wrote = subst (Wrote t t' w.count) e put.1;
+      })
+
+  pub runs_wider : {stop' : ℕ} → stop ≤ stop' → Runs row stop' v t₀ t w
+  runs_wider h = record { signs = mid.signs; leads = leads_wider mid.leads h; count = mid.count; wrote = mid.wrote }
+
+  -- where no sign starts, no text has the row
+  runs_astray : Nowhere row w → Strides row stop v t₀ t (Err (record { cells = w.at }))
+  runs_astray e = strides_nowhere w.at mid.leads.within mid.leads.cells (leads_nowhere mid.leads e) mid.wrote.0
+
+  -- the sign that starts there, and one that is read as usual, which has one code point
+  module _ (inside : w.at < length row) where
+    pub turn_here : (x : Step) → step_at row w.at (number_of w.mode) w.opened ≡ Some x → TurnOf row w x
+    turn_here = turn_there row w inside mid.leads.opens
+
+    pub usual_here : (word : ℕ) → word ≡ word_of (get_or row w.at 0) → usual_in word (number_of w.mode) ≡ true → (x : Step) → Some x ≡ step_of w.at w.opened (usual_by word)
+        → TurnOf row w x × (length (points x.lead x.point) ≡ 1)
+    usual_here word e u x f = (
+      turn_here x (sym (f ∙ as_usual_lem row w.at (number_of w.mode) w.opened word (e ∙ word_there row w.at inside) u)),
+      ap (λ (l : rust.Option ℕ). length (points l x.point)) (usual_one w.at w.opened word x f),
+    )
+
+    pub astray_here : step_at row w.at (number_of w.mode) w.opened ≡ None → Strides row stop v t₀ t (Err (record { cells = w.at }))
+    astray_here e = runs_astray (nowhere_there row w inside mid.leads.opens e)
+
+  pub runs_strayed : {t' : List ℕ} {e : NoText} → Strides row stop w t t' (Err e) → Goes row stop v t₀ t' (Err e)
+  runs_strayed (strides_nowhere k within cells none_left same) =
+      goes_nowhere k within (cells_join_on mid.leads cells) (leads_nowhere mid.leads none_left) (same ∙ mid.wrote.0)
+
+  pub runs_uncounted : {e : NoText} → Strides row stop (uncounted w) [] [] (Err e) → Goes row stop v t₀ t (Err e)
+  runs_uncounted (strides_nowhere k within cells none_left same) =
+      goes_nowhere k within (cells_join_on mid.leads cells) (leads_nowhere mid.leads none_left) mid.wrote.0
+
+-- WHAT A STRETCH FOUND, and the same of a text that has no room
+pub strides_runs : {row : Row} {stop : ℕ} {v w : Stand} {t t' : List ℕ} → Strides row stop v t t' (Ok w) → Runs row stop v t t' w × (v.at < stop → v.at < w.at)
+strides_runs (strides_on ss u leads further count wrote) = (record { signs = ss; leads = leads; count = count; wrote = wrote }, further)
+
+pub unwritten_runs : {row : Row} {stop : ℕ} (v w : Stand) (t : List ℕ) → length t ≤ v.count → Strides row stop (uncounted v) [] [] (Ok w)
+    → Runs row stop v t t (record { at = w.at; mode = w.mode; opened = w.opened; count = v.count + w.count }) × (v.at < stop → v.at < w.at)
+unwritten_runs v w t full (strides_on ss u leads further count wrote) =
+    (record { signs = ss; leads = leads; count = omega (arith, count); wrote = wrote_full t v.count (print_of ss) full }, further)
+
+pub goes_runs : {row : Row} {stop : ℕ} {v w : Stand} {t t' : List ℕ} → Goes row stop v t t' (Ok w) → Runs row stop v t t' w × (stop ≤ w.at)
+goes_runs (goes_on ss u leads reached count wrote) = (record { signs = ss; leads = leads; count = count; wrote = wrote }, reached)
+
+pub goes_lost : {row : Row} {stop : ℕ} {v : Stand} {t t' : List ℕ} {e : NoText} → Goes row stop v t t' (Err e) → Nowhere row v × (length t' ≡ length t)
+goes_lost (goes_nowhere k within cells none_left same) = (none_left, same)
+
+pub strides_unwritten : {row : Row} {stop : ℕ} {v : Stand} {t t' : List ℕ} (r : Result Stand NoText) → Strides row stop v t t' r → Strides row stop v [] [] r
+strides_unwritten {v = v} r (strides_on ss w leads further count wrote) = strides_on ss w leads further count (wrote_full [] v.count (print_of ss) zero-le)
+strides_unwritten r (strides_nowhere k within cells none_left same) = strides_nowhere k within cells none_left refl
+
+-- A QUICK READING that gives a sign is a turn, and that of one code point
+pub alike_turn : (row : Row) (w v : Stand) → w.at < length row → w.opened < open_states → w.opened ≡ v.opened → (x : Step) → Alike row w.at w.mode v (Some x)
+    → TurnOf row w x × (x.lead ≡ None) × (x.opened ≡ v.opened) × Kin (number_of x.mode) (number_of v.mode)
+alike_turn row w v inside few same x (inl e) = let z : ◌≡◌ {A = ℕ} 0 1 = cc in absurd (omega arith)
+alike_turn row w v inside few same x (inr (e, (y, f, none_before, opened, kin))) =
+    let g : y ≡ x = sym (same_step f) in (
+      turn_there row w inside few x (ap (step_at row w.at (number_of w.mode)) same ∙ sym e),
+      ap (λ (s : Step). s.lead) (sym g) ∙ none_before,
+      ap (λ (s : Step). s.opened) (sym g) ∙ opened,
+      subst (λ (s : Step). Kin (number_of s.mode) (number_of v.mode)) g kin,
+    )
+
+module _ {row : Row} {stop : ℕ} {v w : Stand} {t₀ t : List ℕ} (mid : Runs row stop v t₀ t w) (here : w.at < stop) (inside : stop ≤ length row) (same : w.opened ≡ v.opened)
+    (x : Step) {s : rust.Option Step} (alike : Alike row w.at w.mode v s) (some : s ≡ Some x) where
+  pub again_turn : TurnOf row w x × (x.lead ≡ None) × (x.opened ≡ v.opened) × Kin (number_of x.mode) (number_of v.mode)
+  again_turn = alike_turn row w v (omega (arith, here, inside)) mid.leads.opens same x (subst (Alike row w.at w.mode v) some alike)
+
+  pub runs_again : (room : ℕ) {r : ℕ} {t' : List ℕ} → Room stop w.at w.count room → (r ≡ w.count + length (points x.lead x.point)) × Wrote t t' w.count (points x.lead x.point)
+      → Runs row stop v t₀ t' (record { at = x.next; mode = x.mode; opened = v.opened; count = r }) × Room stop x.next r room × Kin (number_of x.mode) (number_of v.mode)
+  runs_again room {r} {t'} roomy put = (
+    subst (λ (o : ℕ). Runs row stop v t₀ t' (record { at = x.next; mode = x.mode; opened = o; count = r })) again_turn.2 (runs_turn mid x again_turn.0 here put),
+    omega (arith, roomy, again_turn.0.forward, put.0, ap (λ (l : rust.Option ℕ). length (points l x.point)) again_turn.1),
+    again_turn.3,
+  )
+
+-- and each of the three is one
+module _ (row : Row) (at : ℕ) (m : Mode) (w : Stand) (s : rust.Option Step) where
+  quick_alike : (n : ℕ) → n < mode_count → Kin n (number_of w.mode) → Quick row at (number_of m) n w.opened s → Alike row at m w s
+  quick_alike n small kin (inl e) = inl e
+  quick_alike n small kin (inr (e, (p, k, f))) =
+      inr (e, (a_step no_point p k n w.opened, f, refl, refl, subst (λ (i : ℕ). Kin i (number_of w.mode)) (sym (number_back n small)) kin))
+
+  pub same_alike : (n : ℕ) → run_of n ≡ no_run → number_of w.mode ≡ n → Kin (number_of m) (number_of w.mode) → Quick row at n n w.opened s → Alike row at m w s
+  same_alike n alone f kin h =
+      let e : number_of m ≡ n = kin.1 (ap run_of f ∙ alone) ∙ f in
+      quick_alike n (subst (λ (i : ℕ). i < mode_count) e (number_small m)) (subst (λ (i : ℕ). Kin n i) (sym f) (refl, λ z. refl))
+      (subst (λ (i : ℕ). Quick row at i n w.opened s) (sym e) h)
+
+  pub run_alike : run_of (number_of m) ≡ run_of (number_of w.mode) → run_of (number_of w.mode) < no_run → InRun row at (number_of m) w.opened s → Alike row at m w s
+  run_alike e some_run (n, f, h) =
+      quick_alike n (run_small n (omega (arith, f, e, some_run))) (f ∙ e, λ z. absurd (omega (arith, z, some_run))) h
 
 pub alone_more : {row : Row} {at k : ℕ} → Alone row at k → k < length row → alone_cell (get_or row k 0) ≡ true → Alone row at (k + 1)
 alone_more {row} {at} {k} are inside is =
@@ -311,28 +375,38 @@ module _ (row : Row) (all : AllCells row) (at o : ℕ) (few : o < open_states) w
       let before = counted m j e (record { forward = omega arith; within = omega (arith, are.within); alone = λ i h l. are.alone i h (omega (arith, l)) }) in
       let inside : at + j < length row = omega (arith, are.within) in
       let is = are.alone (at + j) (omega arith) (omega arith) in
-      let cell = all (at + j) inside in
+      let cell = get_or row (at + j) 0 in
+      let modes = alone_modes cell (all (at + j) inside) is in
       let step = alone_step row (at + j) (mode_on m j) o inside is before.3 in
-      let turn = turn_of row (at + j) (mode_on m j) o inside before.1.mode few no_point (point_in (word_of (get_or row (at + j) 0))) (at + j + 1) (then_in (word_of (get_or row (at + j) 0))) o step in
+      let x : Step = a_step no_point (point_in (word_of (get_or row (at + j) 0))) (at + j + 1) (then_in (word_of (get_or row (at + j) 0))) o in
+      let back = number_back (then_in (word_of cell)) (⊎_elim (λ h. omega (arith, h)) (λ h. omega (arith, h)) modes) in
+      let turn = turn_of row (at + j) (mode_on m j) o inside before.1.mode few x step in
       let on = leads_turn before.1 turn inside in (
         on.0,
-        subst (λ (k : ℕ). Leads row (length row) at m o k (then_in (word_of (get_or row (at + j) 0))) o on.0) (omega arith) on.1,
+        subst (λ (k : ℕ). Leads row (length row) at m o k (then_in (word_of (get_or row (at + j) 0))) o on.0) (omega arith)
+        (subst (λ (i : ℕ). Leads row (length row) at m o (at + j + 1) i o on.0) back on.1),
         omega (arith, on.2, before.2),
-        alone_modes (get_or row (at + j) 0) cell is,
+        modes,
       )
 
-  pub tallied_runs : (m n k md room : ℕ) → Tallied row at m room n k → (k ≡ at → ⊥) → md ≡ then_in (word_of (get_or row (k - 1) 0))
-      → (t : List ℕ) → length t ≡ room → Runs row (length row) at m o n t t (On k md o (n + (k - at)))
-  tallied_runs m n k md room tallied other is t long =
+  pub tallied_runs : (v : Stand) → v.at ≡ at → v.opened ≡ o → (k : ℕ) (md : Mode) (room : ℕ) → Tallied row v room k → (k ≡ v.at → ⊥) → number_of md ≡ then_in (word_of (get_or row (k - 1) 0))
+      → (t : List ℕ) → length t ≡ room → Runs row (length row) v t t (record { at = k; mode = md; opened = v.opened; count = v.count + (k - v.at) })
+  tallied_runs v here opened k md room tallied other is t long =
       let j : ℕ = k - at - 1 in
-      let e : at + suc j ≡ k = omega (arith, other, tallied.are.forward) in
-      let f : at + j ≡ k - 1 = omega (arith, other, tallied.are.forward) in
+      let e : at + suc j ≡ k = omega (arith, other, here, tallied.are.forward) in
+      let f : at + j ≡ k - 1 = omega (arith, other, here, tallied.are.forward) in
       let only = tallied.only (omega (arith, other, tallied.are.forward)) in
-      let c = counted m (suc j) only.1 (subst (Alone row at) (sym e) tallied.are) in
-      runs_on c.0 k md o (n + (k - at))
-      (subst (λ (i : ℕ). Leads row (length row) at m o i md o c.0) e
-      (subst (λ (i : ℕ). Leads row (length row) at m o (at + suc j) i o c.0) (ap (λ (i : ℕ). then_in (word_of (get_or row i 0))) f ∙ sym is) c.1))
-      (omega (arith, c.2, e)) (wrote_full t n (print_of c.0) (omega (arith, long, only.0)))
+      let c = counted (number_of v.mode) (suc j) only.1 (subst (Alone row at) (sym e) (subst (λ (i : ℕ). Alone row i k) here tallied.are)) in
+      record {
+        signs = c.0;
+        leads =
+            subst (λ (i : ℕ). Leads row (length row) i (number_of v.mode) v.opened k (number_of md) v.opened c.0) (sym here)
+            (subst (λ (i : ℕ). Leads row (length row) at (number_of v.mode) i k (number_of md) i c.0) (sym opened)
+            (subst (λ (i : ℕ). Leads row (length row) at (number_of v.mode) o i (number_of md) o c.0) e
+            (subst (λ (i : ℕ). Leads row (length row) at (number_of v.mode) o (at + suc j) i o c.0) (ap (λ (i : ℕ). then_in (word_of (get_or row i 0))) f ∙ sym is) c.1)));
+        count = omega (arith, c.2, e, here);
+        wrote = wrote_full t v.count (print_of c.0) (omega (arith, long, only.0));
+      }
 
 pub adds_some : (ss xs : List Sign) → add_signs ss (some xs) ≡ some (ss ++ xs)
 adds_some [] xs = refl

@@ -9,9 +9,7 @@ use lib.Seq.{sets, length-sets, sets-eq, drop-drop}
 use Rattle.rules.specs.Cells.{Text}
 use Rattle.rows.specs.Laid.{laid}
 use Rattle.rows.proofs.Laid.{laid_none, laid_step}
-use Rattle.readings.specs.Print.{points}
 use Rattle.walks.specs.Walks.{Wrote}
-use Rattle.readings.proofs.Print.{points_one, points_two}
 
 pub wrote_none : (t : List ℕ) (n : ℕ) → Wrote t t n []
 wrote_none t n = (refl, λ h. sym (laid_none t n))
@@ -44,16 +42,12 @@ wrote_nowhere : (t new : List ℕ) (n : ℕ) (p : Text) → length t < n + lengt
 wrote_nowhere t new n p h e = (ap length e, λ k. absurd (omega (arith, h, k)))
 
 -- THE ENDS OF `put`: a sign without a lead, or with one, behind n elements
-module _ (t new : List ℕ) (n l p : ℕ) where
-  pub put_one : l ≡ 0 → new ≡ set t n p → (n + 1 ≡ n + length (points l p)) × Wrote t new n (points l p)
-  put_one e stored = rw (points_one l p e) (refl, wrote_stores t new n (p ∷ []) stored)
+module _ (t new : List ℕ) (n p : ℕ) where
+  pub put_one : new ≡ set t n p → Wrote t new n (p ∷ [])
+  put_one = wrote_stores t new n (p ∷ [])
 
-  pub put_two : (l ≡ 0 → ⊥) → (new ≡ set (set t n l) (n + 1) p) ⊎ ((length t < n + 2) × (new ≡ t))
-      → (n + 2 ≡ n + length (points l p)) × Wrote t new n (points l p)
-  put_two e came =
+  pub put_two : (l : ℕ) → (new ≡ set (set t n l) (n + 1) p) ⊎ ((length t < n + 2) × (new ≡ t)) → Wrote t new n (l ∷ p ∷ [])
+  put_two l came =
       let next : n + 1 ≡ suc n = omega arith in
-      rw (points_two l p e) (
-        refl,
-        ⊎_elim (λ h. wrote_stores t new n (l ∷ p ∷ []) (h ∙ ap (λ (k : ℕ). set (set t n l) k p) next))
-            (λ h. wrote_nowhere t new n (l ∷ p ∷ []) (omega (arith, h.0)) h.1) came,
-      )
+      ⊎_elim (λ h. wrote_stores t new n (l ∷ p ∷ []) (h ∙ ap (λ (k : ℕ). set (set t n l) k p) next))
+      (λ h. wrote_nowhere t new n (l ∷ p ∷ []) (omega (arith, h.0)) h.1) came

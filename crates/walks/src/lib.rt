@@ -2,40 +2,51 @@
 // follow from the cells before. What is read is written to a lent text, if there is room for it. What a walk finds is specs/Walks.antt.
 #![tactic(auto)]
 
-ghost use Rattle.std.specs.Prelude.{List, [], ◌≡◌, ℕ, ◌+◌, ◌*◌, ◌≤◌, ◌<◌, length};
+ghost use Rattle.std.specs.Prelude.{List, [], ◌≡◌, ℕ, ◌+◌, ◌*◌, ◌≤◌, ◌<◌, length, Some, None};
 ghost use Rattle.rules.specs.Refusals.{longest_row};
-ghost use Rattle.pairs.specs.Opened.{open_states};
-ghost use Rattle.readings.specs.Modes.{mode_count, free, owing, dash};
 ghost use Rattle.readings.specs.Print.{points};
-ghost use Rattle.readings.specs.Readings.{no_point};
-ghost use Rattle.signs.specs.Runs.{no_run, run_of};
-ghost use Rattle.walks.specs.Walks.{most_points, Wrote, Room, RoomLeft, Runs, Strides, Goes, AllCells, Alone, Tallied};
+ghost use Rattle.walks.specs.Walks.{most_points, a_stand, uncounted, Stands, Wrote, Room, RoomLeft, Reads, Runs, Strides, Goes, AllCells, Alone, Tallied};
 
-use readings::{ALIKE, DASH, FREE, MIXED, NO_POINT, OWING, Step};
-use signs::NO_RUN;
+use readings::{Mode, NO_POINT, Step};
 
-// What a walk over a part of the row finds: the place that it comes to, what the signs up to it leave (the mode and the open pairs), and how many code
-// points are counted; or that no text has the row, and a place before which every byte that it walked over is a cell.
+// Where a walk over a row stands between two signs: the place, what the signs before it leave (the mode and the open pairs), and how many code points are counted.
 #[derive(Clone, Copy)]
-pub enum Walked {
-    On {
-        at: usize,
-        mode: usize,
-        opened: usize,
-        count: usize,
-    },
-    Nowhere(usize),
+pub struct Stand {
+    pub at: usize,
+    pub mode: Mode,
+    pub opened: usize,
+    pub count: usize,
+}
+
+// No text has the row. Before the place `cells` every byte that was walked over is a cell.
+#[derive(Clone, Copy)]
+pub struct NoText {
+    pub cells: usize,
+}
+
+impl Stand {
+    // At a row's front: nothing is begun, no pair is open.
+    pub fn at_start() -> Stand
+        ensures { result ≡ a_stand 0 0 0 0 }
+    {
+        Stand {
+            at: 0,
+            mode: Mode::Free,
+            opened: 0,
+            count: 0,
+        }
+    }
 }
 
 // Writes a sign's code points behind those that are counted, and counts them. There is room for one; two that have no room both are only counted.
-fn put(text: &mut [u32], count: usize, lead: u32, point: u32) -> usize
+fn put(text: &mut [u32], count: usize, lead: Option<u32>, point: u32) -> usize
     requires { (count ≤ most_points) × (count < length text.old) }
     ensures { (result ≡ count + length (points lead point)) × Wrote text.old text.new count (points lead point) }
 {
-    if lead == NO_POINT {
+    let Some(lead) = lead else {
         text[count] = point;
         return count + 1;
-    }
+    };
     if count + 2 <= text.len() {
         text[count] = lead;
         text[count + 1] = point;
@@ -43,161 +54,70 @@ fn put(text: &mut [u32], count: usize, lead: u32, point: u32) -> usize
     count + 2
 }
 
-// U+2014 behind another: as many as follow, behind the code points that are counted. (This and the next two read what `stretch` would, with less to ask at each
-// sign.)
-fn dashes(
+// Signs that follow one another alike: as many as `next` reads, from a place and a mode on.
+fn repeated<F: Fn(usize, Mode) -> Option<Step>>(
+    next: F,
     row: &[u8],
-    from: usize,
+    from: Stand,
     stop: usize,
-    unclosed: usize,
     text: &mut [u32],
-    counted: usize,
-) -> Walked
-    requires { (length row.now ≤ longest_row) × (from ≤ length row.now) × (stop ≤ length row.now) × (unclosed < open_states) × (counted ≤ 2 * from) × Room stop from counted (length text.old) }
-    ensures { Runs row.now stop from dash unclosed counted text.old text.new result × RoomLeft stop (length text.old) result }
+) -> Stand
+    requires { Stands row.now from × (stop ≤ length row.now) × Room stop from.at from.count (length text.old) × Reads (F.pre next) (F.post next) row.now from }
+    ensures { Runs row.now stop from text.old text.new result × RoomLeft stop (length text.old) result }
 {
-    let mut at: usize = from;
-    let mut count: usize = counted;
+    let mut at = from.at;
+    let mut mode = from.mode;
+    let mut count = from.count;
     while at < stop {
-        let Step::Sign {
-            lead,
-            point,
-            next,
-            mode: _,
-            opened: _,
-        } = signs::dash_at(row, at, unclosed)
-        else {
-            return Walked::On {
-                at,
-                mode: DASH,
-                opened: unclosed,
-                count,
-            };
+        let Some(step) = next(at, mode) else {
+            break;
         };
-        count = put(text, count, lead, point);
-        at = next;
+        count = put(text, count, step.lead, step.point);
+        mode = step.mode;
+        at = step.next;
     }
-    Walked::On {
+    Stand {
         at,
-        mode: DASH,
-        opened: unclosed,
+        mode,
+        opened: from.opened,
         count,
     }
 }
 
-// A capital with its 46 behind two such or more: as many as follow.
-fn capitals(
-    row: &[u8],
-    from: usize,
-    stop: usize,
-    unclosed: usize,
-    text: &mut [u32],
-    counted: usize,
-) -> Walked
-    requires { (length row.now ≤ longest_row) × (from ≤ length row.now) × (stop ≤ length row.now) × (unclosed < open_states) × (counted ≤ 2 * from) × Room stop from counted (length text.old) }
-    ensures { Runs row.now stop from owing unclosed counted text.old text.new result × RoomLeft stop (length text.old) result }
+// What follows alike, by the mode that the last sign left: U+2014 behind another; a capital with its 46 behind two such or more; the digits of a number with the points
+// and commas between them, the letters of a run of capitals, lower digits. (`stretch` would read the same, with more to ask at each sign.)
+fn alike(row: &[u8], from: Stand, stop: usize, text: &mut [u32]) -> Stand
+    requires { Stands row.now from × (stop ≤ length row.now) × Room stop from.at from.count (length text.old) }
+    ensures { Runs row.now stop from text.old text.new result × RoomLeft stop (length text.old) result }
 {
-    let mut at: usize = from;
-    let mut count: usize = counted;
-    while at < stop {
-        let Step::Sign {
-            lead,
-            point,
-            next,
-            mode: _,
-            opened: _,
-        } = signs::owed_at(row, at, unclosed)
-        else {
-            return Walked::On {
-                at,
-                mode: OWING,
-                opened: unclosed,
-                count,
+    let opened = from.opened;
+    match from.mode {
+        Mode::Dash => repeated(
+            |at, _| signs::dash_at(row, at, opened),
+            row,
+            from,
+            stop,
+            text,
+        ),
+        Mode::Owing => repeated(
+            |at, _| signs::owed_at(row, at, opened),
+            row,
+            from,
+            stop,
+            text,
+        ),
+        _ => {
+            let Some(run) = signs::run_of(from.mode) else {
+                return from;
             };
-        };
-        count = put(text, count, lead, point);
-        at = next;
-    }
-    Walked::On {
-        at,
-        mode: OWING,
-        opened: unclosed,
-        count,
-    }
-}
-
-// The digits of a number with the points and commas between them, the letters of a run of capitals, lower digits: as many as follow.
-fn run(
-    row: &[u8],
-    from: usize,
-    stop: usize,
-    begun: usize,
-    unclosed: usize,
-    text: &mut [u32],
-    counted: usize,
-) -> Walked
-    requires { (length row.now ≤ longest_row) × (from ≤ length row.now) × (stop ≤ length row.now) × (begun < mode_count) × (unclosed < open_states) × (counted ≤ 2 * from) × Room stop from counted (length text.old) × (run_of begun < no_run) }
-    ensures { Runs row.now stop from begun unclosed counted text.old text.new result × RoomLeft stop (length text.old) result }
-{
-    let field = signs::run_of(begun);
-    let mut mode_now: usize = begun;
-    let mut at: usize = from;
-    let mut count: usize = counted;
-    while at < stop {
-        let Step::Sign {
-            lead,
-            point,
-            next,
-            mode: mode_after,
-            opened: _,
-        } = signs::run_at(row, at, field, mode_now, unclosed)
-        else {
-            return Walked::On {
-                at,
-                mode: mode_now,
-                opened: unclosed,
-                count,
-            };
-        };
-        count = put(text, count, lead, point);
-        mode_now = mode_after;
-        at = next;
-    }
-    Walked::On {
-        at,
-        mode: mode_now,
-        opened: unclosed,
-        count,
-    }
-}
-
-// What follows alike, by the mode that the last sign left.
-fn alike(
-    row: &[u8],
-    from: usize,
-    stop: usize,
-    begun: usize,
-    unclosed: usize,
-    text: &mut [u32],
-    counted: usize,
-) -> Walked
-    requires { (length row.now ≤ longest_row) × (from ≤ length row.now) × (stop ≤ length row.now) × (begun < mode_count) × (unclosed < open_states) × (counted ≤ 2 * from) × Room stop from counted (length text.old) }
-    ensures { Runs row.now stop from begun unclosed counted text.old text.new result × RoomLeft stop (length text.old) result }
-{
-    if begun == DASH {
-        return dashes(row, from, stop, unclosed, text, counted);
-    }
-    if begun == OWING {
-        return capitals(row, from, stop, unclosed, text, counted);
-    }
-    if signs::run_of(begun) < NO_RUN {
-        return run(row, from, stop, begun, unclosed, text, counted);
-    }
-    Walked::On {
-        at: from,
-        mode: begun,
-        opened: unclosed,
-        count: counted,
+            repeated(
+                |at, mode| signs::run_at(row, at, run, mode, opened),
+                row,
+                from,
+                stop,
+                text,
+            )
+        }
     }
 }
 
@@ -215,170 +135,110 @@ fn limit_of(at: usize, stop: usize, room: usize, count: usize) -> usize
 
 // The same behind a sign. (One of one code point has a cell for it, and leaves as much room to the cells behind it. One of two may have but one cell.)
 fn limit_behind(
-    lead: u32,
+    lead: Option<u32>,
     limit: usize,
     next: usize,
     stop: usize,
     room: usize,
     count: usize,
 ) -> usize
-    requires { (limit ≤ stop) × (count ≤ next + room) × (next ≤ longest_row) × (room ≤ longest_row) × (lead ≡ no_point → Room limit next count room) }
+    requires { (limit ≤ stop) × (count ≤ next + room) × (next ≤ longest_row) × (room ≤ longest_row) × (lead ≡ None → Room limit next count room) }
     ensures { (result ≤ stop) × Room result next count room }
 {
-    if lead == NO_POINT {
-        return limit;
+    match lead {
+        None => limit,
+        Some(_) => limit_of(next, stop, room, count),
     }
-    limit_of(next, stop, room, count)
 }
 
-// "each step gives the print of the next sign and the place after it." From a place, where a sign starts, with what the signs before it leave (`begun` is the
-// mode, `unclosed` are the open pairs), as long as the next sign starts before the place `stop` and there is room for what is read: so of room nothing is asked at each
-// sign. The print is written behind the code points that are counted. Behind some signs more may follow alike, and those are read at once. (Behind most
-// signs none may: their modes are the lowest.)
-fn stretch(
-    row: &[u8],
-    from: usize,
-    stop: usize,
-    begun: usize,
-    unclosed: usize,
-    text: &mut [u32],
-    counted: usize,
-) -> Walked
-    requires { (length row.now ≤ longest_row) × (from ≤ length row.now) × (stop ≤ length row.now) × (begun < mode_count) × (unclosed < open_states) × (counted ≤ 2 * from) × (length text.old ≤ longest_row) × (counted < length text.old) }
-    ensures { Strides row.now stop from begun unclosed counted text.old text.new result }
+// "each step gives the print of the next sign and the place after it." From a place, where a sign starts, with what the signs before it leave, as long as the next sign starts before
+// the place `stop` and there is room for what is read: so of room nothing is asked at each sign. The print is written behind the code points that are counted. Behind some
+// signs more may follow alike, and those are read at once. (Behind most signs none may: their modes are the lowest.)
+fn stretch(row: &[u8], from: Stand, stop: usize, text: &mut [u32]) -> Result<Stand, NoText>
+    requires { Stands row.now from × (stop ≤ length row.now) × (length text.old ≤ longest_row) × (from.count < length text.old) }
+    ensures { Strides row.now stop from text.old text.new result }
 {
-    let mut mode: usize = begun;
-    let mut opened: usize = unclosed;
-    let mut count: usize = counted;
-    let mut at: usize = from;
-    let mut limit: usize = limit_of(from, stop, text.len(), counted);
+    let Stand {
+        mut at,
+        mut mode,
+        mut opened,
+        mut count,
+    } = from;
+    let mut limit = limit_of(at, stop, text.len(), count);
     while at < limit {
         let word = signs::word_of(row[at]);
         if signs::is_usual(word, mode) {
-            let Step::Sign {
-                lead,
-                point,
-                next,
-                mode: mode_after,
-                opened: opened_after,
-            } = signs::usual(word, at, opened)
-            else {
-                return Walked::Nowhere(at);
-            };
-            count = put(text, count, lead, point);
-            mode = mode_after;
-            opened = opened_after;
-            at = next;
+            let step = signs::usual(word, at, opened);
+            count = put(text, count, step.lead, step.point);
+            mode = step.mode;
+            opened = step.opened;
+            at = step.next;
         } else {
-            let Step::Sign {
-                lead,
-                point,
-                next,
-                mode: mode_after,
-                opened: opened_after,
-            } = signs::sign_at(row, at, word, mode, opened)
-            else {
-                return Walked::Nowhere(at);
+            let Some(step) = signs::sign_at(row, at, word, mode, opened) else {
+                return Err(NoText { cells: at });
             };
-            count = put(text, count, lead, point);
-            limit = limit_behind(lead, limit, next, stop, text.len(), count);
-            if ALIKE <= mode_after {
-                let Walked::On {
-                    at: at_last,
-                    mode: mode_last,
-                    opened: opened_last,
-                    count: count_last,
-                } = alike(row, next, limit, mode_after, opened_after, text, count)
-                else {
-                    return Walked::Nowhere(at);
-                };
-                count = count_last;
-                mode = mode_last;
-                opened = opened_last;
-                at = at_last;
-            } else {
-                mode = mode_after;
-                opened = opened_after;
-                at = next;
+            count = put(text, count, step.lead, step.point);
+            mode = step.mode;
+            opened = step.opened;
+            at = step.next;
+            limit = limit_behind(step.lead, limit, at, stop, text.len(), count);
+            if mode.goes_on() {
+                let last = alike(
+                    row,
+                    Stand {
+                        at,
+                        mode,
+                        opened,
+                        count,
+                    },
+                    limit,
+                    text,
+                );
+                at = last.at;
+                mode = last.mode;
+                opened = last.opened;
+                count = last.count;
             }
         }
     }
-    Walked::On {
+    Ok(Stand {
         at,
         mode,
         opened,
         count,
-    }
+    })
 }
 
 // So many code points are read at once where nothing is written.
 const SCRAP: usize = 128;
 
 // A stretch that nothing is written of; it is counted from 0 on.
-fn unwritten(row: &[u8], from: usize, stop: usize, begun: usize, unclosed: usize) -> Walked
-    requires { (length row.now ≤ longest_row) × (from ≤ length row.now) × (stop ≤ length row.now) × (begun < mode_count) × (unclosed < open_states) }
-    ensures { Strides row.now stop from begun unclosed 0 [] [] result }
+fn unwritten(row: &[u8], from: Stand, stop: usize) -> Result<Stand, NoText>
+    requires { Stands row.now from × (stop ≤ length row.now) }
+    ensures { Strides row.now stop (uncounted from) [] [] result }
 {
     let mut scrap = [NO_POINT; SCRAP];
-    stretch(row, from, stop, begun, unclosed, &mut scrap, 0)
+    stretch(row, Stand { count: 0, ..from }, stop, &mut scrap)
 }
 
 // A walk up to the place `stop`, stretch by stretch. Where there is no room any more, what is read is only counted.
-pub fn walk(
-    row: &[u8],
-    from: usize,
-    stop: usize,
-    begun: usize,
-    unclosed: usize,
-    text: &mut [u32],
-    counted: usize,
-) -> Walked
-    requires { (length row.now ≤ longest_row) × (from ≤ length row.now) × (stop ≤ length row.now) × (begun < mode_count) × (unclosed < open_states) × (counted ≤ 2 * from) × (length text.old ≤ longest_row) }
-    ensures { Goes row.now stop from begun unclosed counted text.old text.new result }
+pub fn walk(row: &[u8], from: Stand, stop: usize, text: &mut [u32]) -> Result<Stand, NoText>
+    requires { Stands row.now from × (stop ≤ length row.now) × (length text.old ≤ longest_row) }
+    ensures { Goes row.now stop from text.old text.new result }
 {
-    let mut mode: usize = begun;
-    let mut opened: usize = unclosed;
-    let mut count: usize = counted;
-    let mut at: usize = from;
-    while at < stop {
-        if count < text.len() {
-            let found = stretch(row, at, stop, mode, opened, text, count);
-            let Walked::On {
-                at: next,
-                mode: mode_next,
-                opened: opened_next,
-                count: count_next,
-            } = found
-            else {
-                return found;
-            };
-            mode = mode_next;
-            opened = opened_next;
-            count = count_next;
-            at = next;
+    let mut now = from;
+    while now.at < stop {
+        now = if now.count < text.len() {
+            stretch(row, now, stop, text)?
         } else {
-            let found = unwritten(row, at, stop, mode, opened);
-            let Walked::On {
-                at: next,
-                mode: mode_next,
-                opened: opened_next,
-                count: more,
-            } = found
-            else {
-                return found;
-            };
-            mode = mode_next;
-            opened = opened_next;
-            count = count + more;
-            at = next;
-        }
+            let read = unwritten(row, now, stop)?;
+            Stand {
+                count: now.count + read.count,
+                ..read
+            }
+        };
     }
-    Walked::On {
-        at,
-        mode,
-        opened,
-        count,
-    }
+    Ok(now)
 }
 
 // How many cells are walked at once where nothing is written any more.
@@ -389,57 +249,39 @@ fn behind_alone(row: &[u8], from: usize) -> usize
     requires { (from ≤ length row.now) × AllCells row.now }
     ensures { Alone row.now from result }
 {
-    let mut at: usize = from;
-    while at < row.len() {
+    for at in from..row.len() {
         if !signs::is_alone(row[at]) {
             return at;
         }
-        at += 1;
     }
-    at
+    row.len()
 }
 
 // The same in a mode that reads them so, where there is no room for them; otherwise the place itself.
-fn behind_tallied(row: &[u8], from: usize, begun: usize, room: usize, counted: usize) -> usize
-    requires { (from ≤ length row.now) × AllCells row.now }
-    ensures { Tallied row.now from begun room counted result }
+fn behind_tallied(row: &[u8], from: Stand, room: usize) -> usize
+    requires { (from.at ≤ length row.now) × AllCells row.now }
+    ensures { Tallied row.now from room result }
 {
-    if counted < room {
-        return from;
-    }
-    match begun {
-        FREE => behind_alone(row, from),
-        MIXED => behind_alone(row, from),
-        _ => from,
+    match from.mode {
+        Mode::Free | Mode::Mixed if room <= from.count => behind_alone(row, from.at),
+        _ => from.at,
     }
 }
 
 // What there is no room for is only counted, and such cells are counted at once. (They are most of a text, and so its length is soon known where it is too long.)
-fn tally(
-    row: &[u8],
-    from: usize,
-    begun: usize,
-    unclosed: usize,
-    room: usize,
-    counted: usize,
-) -> Walked
-    requires { (length row.now ≤ longest_row) × (from ≤ length row.now) × AllCells row.now × (begun < mode_count) × (unclosed < open_states) × (counted ≤ 2 * from) }
-    ensures { (t : List ℕ) → length t ≡ room → Runs row.now (length row.now) from begun unclosed counted t t result }
+fn tally(row: &[u8], from: Stand, room: usize) -> Stand
+    requires { Stands row.now from × AllCells row.now }
+    ensures { (t : List ℕ) → length t ≡ room → Runs row.now (length row.now) from t t result }
 {
-    let end = behind_tallied(row, from, begun, room, counted);
-    if end == from {
-        return Walked::On {
-            at: from,
-            mode: begun,
-            opened: unclosed,
-            count: counted,
-        };
+    let end = behind_tallied(row, from, room);
+    if end == from.at {
+        return from;
     }
-    Walked::On {
+    Stand {
         at: end,
         mode: signs::mode_behind(row[end - 1]),
-        opened: unclosed,
-        count: counted + (end - from),
+        opened: from.opened,
+        count: from.count + (end - from.at),
     }
 }
 
@@ -456,43 +298,18 @@ fn part_end(at: usize, end: usize, room: usize, counted: usize) -> usize
 }
 
 // A whole row of cells, part by part: what a walk over it finds. Where the text is full, the rest is only counted.
-pub fn walk_row(row: &[u8], text: &mut [u32]) -> Walked
+pub fn walk_row(row: &[u8], text: &mut [u32]) -> Result<Stand, NoText>
     requires { (length row.now ≤ longest_row) × AllCells row.now × (length text.old ≤ longest_row) }
-    ensures { Goes row.now (length row.now) 0 free 0 0 text.old text.new result }
+    ensures { Goes row.now (length row.now) (a_stand 0 0 0 0) text.old text.new result }
 {
-    let mut mode: usize = FREE;
-    let mut opened: usize = 0;
-    let mut count: usize = 0;
-    let mut at: usize = 0;
-    while at < row.len() {
-        let Walked::On {
-            at: near,
-            mode: mode_near,
-            opened: opened_near,
-            count: count_near,
-        } = tally(row, at, mode, opened, text.len(), count)
-        else {
-            return Walked::Nowhere(at);
+    let mut now = Stand::at_start();
+    while now.at < row.len() {
+        let near = tally(row, now, text.len());
+        let stop = part_end(near.at, row.len(), text.len(), near.count);
+        let Ok(next) = walk(row, near, stop, text) else {
+            return Err(NoText { cells: row.len() });
         };
-        let stop = part_end(near, row.len(), text.len(), count_near);
-        let Walked::On {
-            at: next,
-            mode: mode_next,
-            opened: opened_next,
-            count: count_next,
-        } = walk(row, near, stop, mode_near, opened_near, text, count_near)
-        else {
-            return Walked::Nowhere(row.len());
-        };
-        mode = mode_next;
-        opened = opened_next;
-        count = count_next;
-        at = next;
+        now = next;
     }
-    Walked::On {
-        at,
-        mode,
-        opened,
-        count,
-    }
+    Ok(now)
 }

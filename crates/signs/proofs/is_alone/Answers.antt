@@ -1,4 +1,4 @@
--- `is_alone`: the bit of the cell tells. Assumes nothing.
+-- `is_alone`: its bit tells that a cell is alone. Assumes nothing.
 use Rattle.signs.proofs.Cases.{alone_told}
 use Rattle.signs.proofs.is_alone.Goals as goal
 

@@ -1,9 +1,9 @@
--- `mode_behind`: a small letter, or else a sign. Assumes nothing.
+-- `mode_behind`: the bit of a letter tells the mode behind a cell that is alone. Assumes nothing.
 use Rattle.signs.proofs.Cases.{behind_letter, behind_sign}
 use Rattle.signs.proofs.mode_behind.Goals as goal
 
 pub returns-then-cell-eq1 : goal.returns-then-cell-eq1
-returns-then-cell-eq1 c = let s = c.before in behind_letter s.args.cell s.requires.0 s.requires.1 c.if-cell-eq1.true
+returns-then-cell-eq1 c = behind_letter c.args.cell c.requires.0 c.requires.1 c.if-cell-eq1.true
 
-pub returns : goal.returns
-returns c = let s = c.before in behind_sign s.args.cell s.requires.0 s.requires.1 c.if-cell-eq1.false
+pub returns-else-cell-eq1 : goal.returns-else-cell-eq1
+returns-else-cell-eq1 c = behind_sign c.args.cell c.requires.0 c.requires.1 c.if-cell-eq1.false

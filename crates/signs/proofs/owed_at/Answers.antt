@@ -1,30 +1,23 @@
--- `owed_at`: 46 and a letter. Assumes nothing.
-use mathlib.Core.Logic.{inl, inr}
-use mathlib.Core.Path.{◌≡◌, refl, sym, ap, ◌∙◌}
+-- `owed_at`: 46 and a letter, where a small letter is owed (`owed_step`). Assumes nothing.
+use mathlib.Core.Path.{sym, ap, ◌∙◌}
+use mathlib.Core.Logic.{inr}
 use Prim.Native.Nat.{ℕ, ◌+◌}
 use native.Mathlib.Omega.{arith}
+use Rattle.std.specs.Prelude.{Some}
 use Rattle.rules.specs.Cells.{dots}
 use Rattle.readings.specs.Fields.{capital_in}
 use Rattle.readings.specs.Words.{word_of}
-use Rattle.signs.proofs.Cases.{cell_low, byte_word, owed_step}
+use Rattle.signs.proofs.Cases.{some_shown, cell_low, byte_word, owed_step}
 use Rattle.signs.proofs.owed_at.Goals as goal
-
-pub returns-then-row-at-ne-D46 : goal.returns-then-row-at-ne-D46
-returns-then-row-at-ne-D46 c = inl refl
-
-pub returns-then-letter-eq-NO_POINT : goal.returns-then-letter-eq-NO_POINT
-returns-then-letter-eq-NO_POINT c = inl refl
 
 pub returns : goal.returns
 unfolding dots
 returns c =
-    let k = c.before.before.before in
-    let b = k.before in
-    let a = b.before in
-    let s = a.before.before.before in
+    let r = c.args.row.now in
+    let s = some_shown c.capital_in.result c.in_ok-letter.letter (sym c.shown.ensures ∙ c.in_ok-letter.was) in
     inr (
-      c.before.sign.ensures
-          ∙ owed_step s.args.row.now s.args.at s.args.opened k.capital_owed-letter.result (sym (cell_low s.args.row.now s.args.at s.requires.1 (omega (arith, a.if-row-at-ne-D46.false))) ∙ a.if-row-at-ne-D46.false)
-          (k.capital_owed-letter.ensures ∙ ap (λ (y : ℕ). capital_in (word_of y)) b.byte_at.ensures ∙ ap capital_in (byte_word s.args.row.now (s.args.at + 1))) c.before.before.if-letter-eq-NO_POINT.false,
-      (k.capital_owed-letter.result, s.args.at + 2, c.before.sign.ensures),
+      ap Some c.sign.ensures
+          ∙ owed_step r c.args.at c.args.opened c.in_ok-letter.letter (sym (cell_low r c.args.at c.requires.1 (omega (arith, c.if-row-at-ne-D46.false))) ∙ c.if-row-at-ne-D46.false)
+          (s.0 ∙ c.capital_in.ensures ∙ ap capital_in c.word_of.ensures ∙ ap (λ (y : ℕ). capital_in (word_of y)) c.byte_at.ensures ∙ ap capital_in (byte_word r (c.args.at + 1))) s.1,
+      (c.in_ok-letter.letter, c.args.at + 2, ap Some c.sign.ensures),
     )

@@ -1,68 +1,40 @@
 -- `run_at`: a cell that has the run's field is read as the table says (`run_step`), and leaves the run's own mode; in a number a point is read as
 -- `point_inside` does. Assumes nothing.
-use mathlib.Core.Logic.{inl, inr}
-use mathlib.Core.Path.{◌≡◌, refl, ap, ◌∙◌}
+use mathlib.Core.Logic.{inr}
+use mathlib.Core.Path.{◌≡◌, sym, ap, ◌∙◌}
 use Prim.Native.Nat.{ℕ, ◌+◌}
+use Rattle.std.specs.Prelude.{Some}
+use Rattle.readings.specs.Modes.{number_of}
 use Rattle.readings.specs.Fields.{field_in, run_point}
 use Rattle.readings.specs.Words.{word_of}
-use Rattle.readings.specs.Readings.{no_point}
-use Rattle.readings.specs.declared.Step.TheVariants.{Sign}
+use Rattle.readings.specs.Readings.{no_point, shown}
+use Rattle.readings.proofs.Numbers.{number_small}
 use Rattle.signs.specs.Runs.{between, home_of}
-use Rattle.signs.proofs.Cases.{cell_low, run_step, home_run, in_number}
+use Rattle.signs.proofs.Cases.{gives, some_shown, cell_low, run_step, home_run, in_number}
 use Rattle.signs.proofs.run_at.Goals as goal
-use Rattle.signs.proofs.run_at.Lts as lts
-use Rattle.signs.proofs.run_at.Tie as tie
-use Rattle.signs.proofs.run_at.Reads as reads
 
-abbrev After-run_word : Type 0
-After-run_word = lts.After-run_word tie.the-claims reads.Pre reads.Post
-
-abbrev Start : Type 0
-Start = lts.Start tie.the-claims reads.Pre reads.Post
-
--- once the cell's word within a run is looked up
-abbrev W : Type 0
-W = After-run_word
-
-abbrev start : W → Start
-start w = w.before.before.before.before
-
-pub returns-then-cell-gt-LAST_CELL : goal.returns-then-cell-gt-LAST_CELL
-returns-then-cell-gt-LAST_CELL c = (_, refl, inl refl)
-
-pub returns-then-point-ne-NO_POINT : goal.returns-then-point-ne-NO_POINT
-returns-then-point-ne-NO_POINT c =
-    let h = c.before.before in
-    let k = h.before in
-    let p = k.before in
-    let w = p.before in
-    let s = start w in
-    let e : c.before.sign.result ≡ Sign no_point p.field_in-point.result (s.args.at + 1) (home_of s.args.mode) s.args.opened =
-    c.before.sign.ensures ∙ ap (λ (n : ℕ). Sign no_point p.field_in-point.result (s.args.at + 1) n s.args.opened) h.home_of.ensures in (
-      home_of s.args.mode,
-      home_run s.args.mode,
+pub returns-in-Some : goal.returns-in-Some
+returns-in-Some c =
+    let m = number_of c.args.mode in
+    let f = some_shown (field_in c.run_word-word.result c.args.run) c.in-Some.point (sym c.field_in.ensures ∙ c.in-Some.is) in
+    let e : Some c.sign.result ≡ gives no_point c.in-Some.point (c.args.at + 1) (home_of m) c.args.opened =
+    ap Some c.sign.ensures ∙ ap (λ (n : ℕ). gives no_point c.in-Some.point (c.args.at + 1) n c.args.opened) c.home_of.ensures in (
+      home_of m,
+      home_run m,
       inr (
-        e ∙ run_step s.args.row.now s.args.at s.args.mode s.args.opened p.field_in-point.result s.args.run s.requires.2 s.requires.1 w.before.if-cell-gt-LAST_CELL.false s.requires.3 s.requires.4
-            (p.field_in-point.ensures ∙ ap (λ (v : ℕ). field_in v s.args.run) w.run_word-word.ensures) k.if-point-ne-NO_POINT.true,
-        (p.field_in-point.result, s.args.at + 1, e),
+        e ∙ run_step c.args.row.now c.args.at m c.args.opened c.in-Some.point c.args.run (number_small c.args.mode) c.requires.1 c.if-cell-gt-LAST_CELL.false c.requires.2 c.requires.3
+            (f.0 ∙ ap (λ (v : ℕ). field_in v c.args.run) c.run_word-word.ensures) f.1,
+        (c.in-Some.point, c.args.at + 1, e),
       ),
     )
 
 pub point_inside-requires : goal.point_inside-requires
-point_inside-requires c =
-    let w = c.before.before.before.before.before in
-    let s = start w in (
-      s.requires.0,
-      s.requires.1,
-      c.before.field_in.ensures ∙ ap (λ (v : ℕ). field_in v between) w.run_word-word.ensures
-          ∙ ap (λ (n : ℕ). run_point (word_of n) between) (cell_low s.args.row.now s.args.at s.requires.1 w.before.if-cell-gt-LAST_CELL.false),
-    )
+point_inside-requires c = (
+  c.requires.0,
+  c.requires.1,
+  sym c.in_ok-field_in-in-Num.was ∙ c.field_in-in-Num.ensures ∙ ap (λ (v : ℕ). shown (field_in v between)) c.run_word-word.ensures
+      ∙ ap (λ (n : ℕ). shown (run_point (word_of n) between)) (cell_low c.args.row.now c.args.at c.requires.1 c.if-cell-gt-LAST_CELL.false),
+)
 
-pub returns-then-mode-eq-NUM : goal.returns-then-mode-eq-NUM
-returns-then-mode-eq-NUM c =
-    let k = c.before.before.before in
-    let s = start k.before.before.before in
-    in_number s.args.row.now s.args.at s.args.mode s.args.opened c.before.point_inside.result k.if-mode-eq-NUM.true c.before.point_inside.ensures
-
-pub returns : goal.returns
-returns c = (_, refl, inl refl)
+pub returns-in_ok-field_in-in-Num : goal.returns-in_ok-field_in-in-Num
+returns-in_ok-field_in-in-Num c = in_number c.args.row.now c.args.at (number_of c.args.mode) c.args.opened c.point_inside.result (ap number_of c.in-Num.is) c.point_inside.ensures

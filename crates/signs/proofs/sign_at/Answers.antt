@@ -1,72 +1,76 @@
--- `sign_at`: by the deed, or by what the cells that follow decide. Assumes nothing.
-use mathlib.Core.Path.{◌≡◌, ap, ◌∙◌}
-use Rattle.readings.specs.Fields.{deed_of, class_in}
-use Rattle.signs.proofs.Cases.{told_none, told_digit, told_under, told_capital, told_lower, told_denominator, told_masculine, told_question}
+-- `sign_at`: what the table tells of a cell, by its deed. Assumes nothing.
+use mathlib.Core.Path.{◌≡◌, refl, sym, ap, ◌∙◌}
+use Prim.Native.Nat.{ℕ}
+use Rattle.std.specs.Prelude.{Some}
+use Rattle.entries.specs.Chosen.{choose}
+use Rattle.readings.specs.Modes.{number_of}
+use Rattle.readings.specs.Acts.{deed_number}
+use Rattle.readings.specs.Fields.{deed_of}
+use Rattle.readings.specs.Readings.{Reading, once_list, step_of}
+use Rattle.readings.specs.declared.Deed.{Deed}
+use Rattle.readings.specs.declared.Deed.TheVariants as a
+use Rattle.signs.proofs.Cases.{told_by, told_none, told_digit, told_under, told_capital, told_lower, told_denominator, told_masculine}
 use Rattle.signs.proofs.sign_at.Goals as goal
-use Rattle.signs.proofs.sign_at.Lts as lts
-use Rattle.signs.proofs.sign_at.Tie as tie
-use Rattle.signs.proofs.sign_at.Reads as reads
 
-abbrev After-deed_of : Type 0
-After-deed_of = lts.After-deed_of tie.the-claims reads.Pre reads.Post
+-- what is no deed of the cell alone is asked
+asks : (d : Deed) (w : ℕ) (x : Reading) → (d ≡ a.NoSign → ⊥) → (d ≡ a.Digit → ⊥) → (d ≡ a.DigitUnder → ⊥) → (d ≡ a.CapitalOfMany → ⊥) → (d ≡ a.LowerDigit → ⊥) → (d ≡ a.Denominator → ⊥) → (d ≡ a.MasculineMark → ⊥) → choose (once_list w) (deed_number d) x ≡ x
+asks a.NoSign w x n0 n1 n2 n3 n4 n5 n6 = absurd (n0 refl)
+asks a.AsUsual w x n0 n1 n2 n3 n4 n5 n6 = refl
+asks a.Digit w x n0 n1 n2 n3 n4 n5 n6 = absurd (n1 refl)
+asks a.DigitUnder w x n0 n1 n2 n3 n4 n5 n6 = absurd (n2 refl)
+asks a.CapitalOfMany w x n0 n1 n2 n3 n4 n5 n6 = absurd (n3 refl)
+asks a.LowerDigit w x n0 n1 n2 n3 n4 n5 n6 = absurd (n4 refl)
+asks a.Denominator w x n0 n1 n2 n3 n4 n5 n6 = absurd (n5 refl)
+asks a.MasculineMark w x n0 n1 n2 n3 n4 n5 n6 = absurd (n6 refl)
+asks a.Point w x n0 n1 n2 n3 n4 n5 n6 = refl
+asks a.OneOrFeminine w x n0 n1 n2 n3 n4 n5 n6 = refl
+asks a.HyphenOrDash w x n0 n1 n2 n3 n4 n5 n6 = refl
+asks a.DashOnly w x n0 n1 n2 n3 n4 n5 n6 = refl
+asks a.NumberSign w x n0 n1 n2 n3 n4 n5 n6 = refl
+asks a.Capital w x n0 n1 n2 n3 n4 n5 n6 = refl
+asks a.Separates w x n0 n1 n2 n3 n4 n5 n6 = refl
+asks a.Prefixed w x n0 n1 n2 n3 n4 n5 n6 = refl
 
-abbrev Start : Type 0
-Start = lts.Start tie.the-claims reads.Pre reads.Post
+pub returns-in-NoSign : goal.returns-in-NoSign
+returns-in-NoSign c =
+    told_none c.args.row.now c.args.at (number_of c.args.mode) c.args.opened c.args.word c.requires.3 c.requires.4 (deed_number c.deed_of-deed.result)
+    (c.deed_of-deed.ensures ∙ ap (deed_of (number_of c.args.mode)) c.class_in.ensures) (ap deed_number c.in-NoSign.is)
 
--- once the deed is known
-abbrev D : Type 0
-D = After-deed_of
+pub returns-in-Digit : goal.returns-in-Digit
+returns-in-Digit c =
+    ap Some c.sign.ensures ∙ told_digit c.args.row.now c.args.at (number_of c.args.mode) c.args.opened c.args.word c.requires.3 c.requires.4 (deed_number c.deed_of-deed.result)
+    (c.deed_of-deed.ensures ∙ ap (deed_of (number_of c.args.mode)) c.class_in.ensures) (ap deed_number c.in-Digit.is) c.figure_in.result c.figure_in.ensures
 
-abbrev start : D → Start
-start d = d.before.before.before
+pub returns-in-DigitUnder : goal.returns-in-DigitUnder
+returns-in-DigitUnder c =
+    ap Some c.sign-in-DigitUnder.ensures ∙ told_under c.args.row.now c.args.at (number_of c.args.mode) c.args.opened c.args.word c.requires.3 c.requires.4 (deed_number c.deed_of-deed.result)
+    (c.deed_of-deed.ensures ∙ ap (deed_of (number_of c.args.mode)) c.class_in.ensures) (ap deed_number c.in-DigitUnder.is) c.figure_in-in-DigitUnder.result c.figure_in-in-DigitUnder.ensures
 
-told : (d : D) → d.deed_of-deed.result ≡ deed_of (start d).args.mode (class_in (start d).args.word)
-told d = d.deed_of-deed.ensures ∙ ap (deed_of (start d).args.mode) d.before.class_in.ensures
+pub returns-in-CapitalOfMany : goal.returns-in-CapitalOfMany
+returns-in-CapitalOfMany c =
+    ap Some c.sign-in-CapitalOfMany.ensures ∙ told_capital c.args.row.now c.args.at (number_of c.args.mode) c.args.opened c.args.word c.requires.3 c.requires.4 (deed_number c.deed_of-deed.result)
+    (c.deed_of-deed.ensures ∙ ap (deed_of (number_of c.args.mode)) c.class_in.ensures) (ap deed_number c.in-CapitalOfMany.is) c.capital_in.result c.capital_in.ensures
 
-pub returns-in-0 : goal.returns-in-0
-returns-in-0 c =
-    let d = c.before.before in
-    let s = start d in
-    told_none s.args.row.now s.args.at s.args.mode s.args.opened s.args.word s.requires.3 s.requires.4 d.deed_of-deed.result (told d) c.before.in-0.is
+pub returns-in-LowerDigit : goal.returns-in-LowerDigit
+returns-in-LowerDigit c =
+    ap Some c.sign-in-LowerDigit.ensures ∙ told_lower c.args.row.now c.args.at (number_of c.args.mode) c.args.opened c.args.word c.requires.3 c.requires.4 (deed_number c.deed_of-deed.result)
+    (c.deed_of-deed.ensures ∙ ap (deed_of (number_of c.args.mode)) c.class_in.ensures) (ap deed_number c.in-LowerDigit.is) c.lower_in.result c.lower_in.ensures
 
-pub returns-in-2 : goal.returns-in-2
-returns-in-2 c =
-    let d = c.before.before.before.before in
-    let s = start d in
-    c.before.sign.ensures ∙ told_digit s.args.row.now s.args.at s.args.mode s.args.opened s.args.word s.requires.3 s.requires.4 d.deed_of-deed.result (told d) c.before.before.before.in-2.is c.before.before.figure_in.result c.before.before.figure_in.ensures
+pub returns-in-Denominator : goal.returns-in-Denominator
+returns-in-Denominator c =
+    told_denominator c.args.row.now c.args.at (number_of c.args.mode) c.args.opened c.args.word c.requires.3 c.requires.4 (deed_number c.deed_of-deed.result)
+    (c.deed_of-deed.ensures ∙ ap (deed_of (number_of c.args.mode)) c.class_in.ensures) (ap deed_number c.in-Denominator.is) c.figure_in-in-Denominator.result c.figure_in-in-Denominator.ensures
 
-pub returns-in-3 : goal.returns-in-3
-returns-in-3 c =
-    let d = c.before.before.before.before in
-    let s = start d in
-    c.before.sign-in-3.ensures ∙ told_under s.args.row.now s.args.at s.args.mode s.args.opened s.args.word s.requires.3 s.requires.4 d.deed_of-deed.result (told d) c.before.before.before.in-3.is c.before.before.figure_in-in-3.result c.before.before.figure_in-in-3.ensures
-
-pub returns-in-4 : goal.returns-in-4
-returns-in-4 c =
-    let d = c.before.before.before.before in
-    let s = start d in
-    c.before.sign-in-4.ensures ∙ told_capital s.args.row.now s.args.at s.args.mode s.args.opened s.args.word s.requires.3 s.requires.4 d.deed_of-deed.result (told d) c.before.before.before.in-4.is c.before.before.capital_in.result c.before.before.capital_in.ensures
-
-pub returns-in-5 : goal.returns-in-5
-returns-in-5 c =
-    let d = c.before.before.before.before in
-    let s = start d in
-    c.before.sign-in-5.ensures ∙ told_lower s.args.row.now s.args.at s.args.mode s.args.opened s.args.word s.requires.3 s.requires.4 d.deed_of-deed.result (told d) c.before.before.before.in-5.is c.before.before.lower_in.result c.before.before.lower_in.ensures
-
-pub returns-in-6 : goal.returns-in-6
-returns-in-6 c =
-    let d = c.before.before.before in
-    let s = start d in
-    told_denominator s.args.row.now s.args.at s.args.mode s.args.opened s.args.word s.requires.3 s.requires.4 d.deed_of-deed.result (told d) c.before.before.in-6.is c.before.figure_in-in-6.result c.before.figure_in-in-6.ensures
-
-pub returns-in-7 : goal.returns-in-7
-returns-in-7 c =
-    let d = c.before.before in
-    let s = start d in
-    told_masculine s.args.row.now s.args.at s.args.mode s.args.opened s.args.word s.requires.3 s.requires.4 d.deed_of-deed.result (told d) c.before.in-7.is
+pub returns-in-MasculineMark : goal.returns-in-MasculineMark
+returns-in-MasculineMark c =
+    told_masculine c.args.row.now c.args.at (number_of c.args.mode) c.args.opened c.args.word c.requires.3 c.requires.4 (deed_number c.deed_of-deed.result)
+    (c.deed_of-deed.ensures ∙ ap (deed_of (number_of c.args.mode)) c.class_in.ensures) (ap deed_number c.in-MasculineMark.is)
 
 pub returns-in_default : goal.returns-in_default
 returns-in_default c =
-    let d = c.before.before.before in
-    let s = start d in
-    told_question s.args.row.now s.args.at s.args.mode s.args.opened s.args.word s.requires.3 s.requires.4 d.deed_of-deed.result (told d) c.before.before.in_default.in_default-own.rest c.before.asked.result c.before.asked.ensures
+    c.asked.ensures
+    ∙ ap (step_of c.args.at c.args.opened)
+    (sym
+    (asks c.deed_of-deed.result c.args.word _ c.in_default.not-NoSign c.in_default.not-Digit c.in_default.not-DigitUnder c.in_default.not-CapitalOfMany c.in_default.not-LowerDigit c.in_default.not-Denominator c.in_default.not-MasculineMark))
+    ∙ told_by c.args.row.now c.args.at (number_of c.args.mode) c.args.opened c.args.word c.requires.3 c.requires.4 (deed_number c.deed_of-deed.result)
+    (c.deed_of-deed.ensures ∙ ap (deed_of (number_of c.args.mode)) c.class_in.ensures)

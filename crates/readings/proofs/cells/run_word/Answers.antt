@@ -1,11 +1,12 @@
--- `cells::run_word`: at each cell antt computes both sides; a byte that is no cell has no word. Assumes nothing.
-use Rattle.std.proofs.Common.{rules, arith, refl, ap}
-use Rattle.entries.proofs.Places.{upto}
+-- `cells::run_word`: the table has for each byte the fields of its word that a run asks for. Assumes nothing.
+use mathlib.Core.Path.{◌∙◌}
+use native.Mathlib.Omega.{arith}
+use Rattle.readings.specs.declared.cells.TheConstants.{RUN_WORDS}
 use Rattle.readings.specs.Fields.{run_in}
-use Rattle.readings.specs.Words.{words}
-use Rattle.readings.proofs.Words.{no_word}
+use Rattle.readings.specs.Words.{words, word_of}
+use Rattle.readings.proofs.Words.{table_told}
 use Rattle.readings.proofs.cells.run_word.Goals as goal
 
-pub returns-in_default : goal.returns-in_default
-unfolding upto words
-returns-in_default c = ap run_in (no_word words refl 64 (omega arith) c.args.cell (search rules))
+pub returns : goal.returns
+unfolding words
+returns c = c.looked_up.ensures ∙ table_told RUN_WORDS (λ n. run_in (word_of n)) 256 tt c.args.cell (omega (arith, c.ranges.cell.fits))

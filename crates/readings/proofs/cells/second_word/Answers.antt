@@ -1,10 +1,11 @@
--- `cells::second_word`: at each byte that is named antt computes both sides; the last is no cell, and has no word. Assumes nothing.
-use Rattle.std.proofs.Common.{rules, arith, refl}
-use Rattle.entries.proofs.Places.{upto}
-use Rattle.readings.specs.Words.{seconds}
-use Rattle.readings.proofs.Words.{no_word}
+-- `cells::second_word`: the table has for each byte what it is as the second of a sign of two. Assumes nothing.
+use mathlib.Core.Path.{◌∙◌}
+use native.Mathlib.Omega.{arith}
+use Rattle.readings.specs.declared.cells.TheConstants.{SECOND_WORDS}
+use Rattle.readings.specs.Words.{seconds, second_of}
+use Rattle.readings.proofs.Words.{table_told}
 use Rattle.readings.proofs.cells.second_word.Goals as goal
 
-pub returns-in_default : goal.returns-in_default
-unfolding upto seconds
-returns-in_default c = no_word seconds refl 255 (omega arith) c.args.cell (search rules)
+pub returns : goal.returns
+unfolding seconds
+returns c = c.looked_up.ensures ∙ table_told SECOND_WORDS second_of 256 tt c.args.cell (omega (arith, c.ranges.cell.fits))

@@ -1,10 +1,10 @@
--- `cells::word_of`: at each byte that is named antt computes both sides; the last is no cell, and has no word. Assumes nothing.
-use Rattle.std.proofs.Common.{rules, arith, refl}
-use Rattle.entries.proofs.Places.{upto}
-use Rattle.readings.specs.Words.{words}
-use Rattle.readings.proofs.Words.{no_word}
+-- `cells::word_of`: the table has the word of each byte. Assumes nothing.
+use native.Mathlib.Omega.{arith}
+use Rattle.readings.specs.declared.cells.TheConstants.{WORDS}
+use Rattle.readings.specs.Words.{words, word_of}
+use Rattle.readings.proofs.Words.{table_told}
 use Rattle.readings.proofs.cells.word_of.Goals as goal
 
-pub returns-in_default : goal.returns-in_default
-unfolding upto words
-returns-in_default c = no_word words refl 255 (omega arith) c.args.cell (search rules)
+pub returns : goal.returns
+unfolding words
+returns c = table_told WORDS word_of 256 tt c.args.cell (omega (arith, c.ranges.cell.fits))
