@@ -10,11 +10,10 @@ use Rattle.rules.specs.Demands as rules
 use Rattle.passes.specs.Passes as print
 use Rattle.transcriber.specs.Promise.{Transcribed}
 use Rattle.transcriber.specs.Claims as transcriber
-use Rattle.reader.specs.declared.Answer as row
-use Rattle.reader.specs.declared.Answer.TheVariants as rows
+use Rattle.reader.specs.Promise as row
 use Rattle.reader.specs.Promise.{Read}
 use Rattle.reader.specs.Claims as reader
-use Rattle.stepper.specs.declared.Shown as step
+use Rattle.stepper.specs.Promise as step
 use Rattle.stepper.specs.Promise.{Shows}
 use Rattle.stepper.specs.Claims as stepper
 use Rattle.desk.specs.Shows as shown
@@ -51,7 +50,7 @@ abbrev pub RoundTrip : Table → Type 0
 RoundTrip tb =
     (p : Text) (lent : List ℕ) (n : ℕ) (new : List ℕ) → Transcribed tb p lent (Ok n) new
     → (room : List ℕ) (a : row.Answer) (after : List ℕ) → Read tb (take n new) room a after → length (normal_of p) ≤ length room
-    → (a ≡ rows.Done (length (normal_of p))) × (take (length (normal_of p)) after ≡ normal_of p)
+    → (a ≡ Ok (length (normal_of p))) × (take (length (normal_of p)) after ≡ normal_of p)
 
 -- "A text is refused exactly when the rules give it no row, when it exceeds a length, or when the row does not fit the room lent."
 abbrev pub RefusedExactly : Table → Type 0
