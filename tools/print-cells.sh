@@ -27,8 +27,7 @@ ghost use Rattle.readings.specs.Words.{word_of, second_of};
 TEXT
 
 {
-    for name in CAPITAL_AT CLASS_AT FIGURE_AT KIND_AT LOWER_AT Mode POINT_AT POINT_BITS RUN_BETWEEN RUN_CAPITAL RUN_FIGURE RUN_LOWER THEN_AT USUAL_AT; do echo "$name"; done
-    printf '%s\n' "$cells" | awk -F '\t' '$1 != "two" { print $3 }'
+    for name in CAPITAL_AT CLASS_AT Class FIGURE_AT KIND_AT LOWER_AT Mode POINT_AT POINT_BITS RUN_BETWEEN RUN_CAPITAL RUN_FIGURE RUN_LOWER THEN_AT USUAL_AT; do echo "$name"; done
 } | sh tools/imports.sh
 
 cat <<'TEXT'
@@ -37,6 +36,9 @@ cat <<'TEXT'
 const CELLS: usize = 64;
 
 const BYTES: usize = 256;
+
+// The word of a cell that begins no sign, and of what is no cell.
+const NOTHING: u64 = 0;
 
 // The cells, by their dots.
 TEXT
@@ -59,6 +61,11 @@ cat <<'TEXT'
 // What a class is: its number, the modes in which it is read as usual, and the mode after it then.
 TEXT
 printf '%s\n' "$places" | awk -F '\t' '
+function named(name,   word, words, i, whole) {
+    words = split(name, word, "_")
+    for (i = 1; i <= words; i++) whole = whole substr(word[i], 1, 1) tolower(substr(word[i], 2))
+    return whole
+}
 {
     split($4, name, " ")
     if (!(name[1] in at)) { class[++classes] = name[1]; at[name[1]] = classes }
@@ -68,7 +75,7 @@ END {
     for (i = 1; i <= classes; i++) {
         c = class[i]
         if (!(c in usual)) continue
-        print "const AS_" c ": u64 = CLASS_AT * " c
+        print "const AS_" c ": u64 = CLASS_AT * Class::" named(c) " as u64"
         print "    + THEN_AT * Mode::" (c ~ /LETTER|B_TO_J/ ? "Mixed" : "Free") " as u64" usual[c] ";"
         print ""
     }
@@ -79,9 +86,14 @@ cat <<'TEXT'
 static WORDS: [u64; BYTES] = [
 TEXT
 { printf '%s\n' "$places" | awk -F '\t' '$3 == "AS_USUAL" { split($4, name, " "); print "usual\t" name[1] }' | sort -u; printf '%s\n' "$cells"; } | awk -F '\t' '
+function named(name,   word, words, i, whole) {
+    words = split(name, word, "_")
+    for (i = 1; i <= words; i++) whole = whole substr(word[i], 1, 1) tolower(substr(word[i], 2))
+    return whole
+}
 $1 == "usual" { usual[$2] = 1; next }
 $1 != "two" {
-    word = $3 in usual ? "AS_" $3 : $3 == "NOTHING" ? $3 : "CLASS_AT * " $3
+    word = $3 in usual ? "AS_" $3 : $3 == "NOTHING" ? $3 : "CLASS_AT * Class::" named($3) " as u64"
     if ($4 != "none") word = word " + POINT_AT * " $4
     if ($5 != "none") word = word " + CAPITAL_AT * " $5
     if ($6 != "none") word = word " + FIGURE_AT * " $6

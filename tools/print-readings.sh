@@ -12,29 +12,26 @@ LC_ALL=C
 export LC_ALL
 
 places=$(awk -f tools/deeds.awk tools/readings.txt)
-last=$(printf '%s\n' "$places" | awk 'END { print NR - 1 }')
 
 cat <<'TEXT'
 // Printed by tools/print-readings.sh from tools/readings.txt: change that, and print it again. The check compares it with the rules.
-// What is read at a place, by the mode and the class of the cell: 16 rows of 16. Where there is no row or no class of a number,
-// there is no sign.
-ghost use Rattle.std.specs.Prelude.{◌≡◌, ◌<◌, get_or};
-ghost use Rattle.readings.specs.Acts.{no_sign, deed_number};
-ghost use Rattle.readings.specs.Deeds.{deeds, deed_count};
+// What is read at a place, by the mode and the class of the cell: a row for each mode.
+ghost use Rattle.std.specs.Prelude.{◌≡◌};
+ghost use Rattle.readings.specs.Modes.{number_of};
+ghost use Rattle.readings.specs.Acts.{deed_number};
+ghost use Rattle.readings.specs.Fields.{class_number, deed_of};
 
-use crate::Deed;
+use crate::{Class, Deed, Mode};
 
-// There is no other place in the table than these.
 #[tactic(auto, unfolding(crate::specs::Deeds::deeds))]
-pub fn deed_at(place: usize) -> Deed
-    requires { place < deed_count }
-    ensures { deed_number result ≡ get_or deeds place no_sign }
+pub fn deed_of(mode: Mode, class: Class) -> Deed
+    ensures { deed_number result ≡ deed_of (number_of mode) (class_number class) }
 {
-    match place {
+    match (mode, class) {
 TEXT
 
-# An arm for each place, under a comment for each state. The last is for all that the others are not.
-printf '%s\n' "$places" | awk -F '\t' -v last="$last" '
+# An arm for each mode and class, under a comment for each mode.
+printf '%s\n' "$places" | awk -F '\t' '
 # NO_SIGN is `NoSign`.
 function named(name,   word, words, i, whole) {
     words = split(name, word, "_")
@@ -42,7 +39,7 @@ function named(name,   word, words, i, whole) {
     return whole
 }
 $2 != state { state = $2; print "        // " state }
-{ print "        " ($1 == last ? "_" : $1) " => Deed::" named($3) ", // " $4 }'
+{ split($4, class, " "); print "        (Mode::" named($2) ", Class::" named(class[1]) ") => Deed::" named($3) "," }'
 
 cat <<'TEXT'
     }

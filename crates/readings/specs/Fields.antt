@@ -4,6 +4,8 @@ use Rattle.std.specs.Prelude.{Bool, cond, ◌||◌, ℕ, ◌+◌, ◌*◌, ◌/�
 use Rattle.rules.specs.Cells.{Row, last_cell}
 use Rattle.readings.specs.Acts.{no_sign}
 use Rattle.readings.specs.Deeds.{deeds}
+use Rattle.readings.specs.declared.Class.{Class}
+use Rattle.readings.specs.declared.Class.TheVariants as code
 
 -- THE CLASSES of cells: all that the table asks of one (tools/readings.txt)
 abbrev pub nothing : ℕ
@@ -53,6 +55,25 @@ separator = 14
 
 abbrev pub prefix : ℕ
 prefix = 15
+
+-- the number of a class of the code
+abbrev pub class_number : Class → ℕ
+class_number code.Nothing = nothing
+class_number code.LetterA = letter_a
+class_number code.BToJ = b_to_j
+class_number code.LetterO = letter_o
+class_number code.OtherLetter = other_letter
+class_number code.Stop = stop
+class_number code.Comma = comma
+class_number code.SignOrLow = sign_or_low
+class_number code.MarkOrLow = mark_or_low
+class_number code.LowOnly = low_only
+class_number code.Sign = sign
+class_number code.Line = line
+class_number code.CapitalSign = capital_sign
+class_number code.FigureSign = figure_sign
+class_number code.Separator = separator
+class_number code.Prefix = prefix
 
 -- what the table says of a mode and a class
 abbrev pub deed_of : ℕ → ℕ → ℕ

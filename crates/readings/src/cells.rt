@@ -6,16 +6,17 @@ ghost use Rattle.readings.specs.Fields.{run_in};
 ghost use Rattle.readings.specs.Words.{word_of, second_of};
 
 use crate::{
-    B_TO_J, CAPITAL_AT, CAPITAL_SIGN, CLASS_AT, COMMA, FIGURE_AT, FIGURE_SIGN, KIND_AT, LETTER_A,
-    LETTER_O, LINE, LOW_ONLY, LOWER_AT, MARK_OR_LOW, Mode, NOTHING, OTHER_LETTER, POINT_AT,
-    POINT_BITS, PREFIX, RUN_BETWEEN, RUN_CAPITAL, RUN_FIGURE, RUN_LOWER, SEPARATOR, SIGN,
-    SIGN_OR_LOW, STOP, THEN_AT, USUAL_AT,
+    CAPITAL_AT, CLASS_AT, Class, FIGURE_AT, KIND_AT, LOWER_AT, Mode, POINT_AT, POINT_BITS,
+    RUN_BETWEEN, RUN_CAPITAL, RUN_FIGURE, RUN_LOWER, THEN_AT, USUAL_AT,
 };
 
 // How many cells there are. "Cells are bytes 0 to 63"
 const CELLS: usize = 64;
 
 const BYTES: usize = 256;
+
+// The word of a cell that begins no sign, and of what is no cell.
+const NOTHING: u64 = 0;
 
 // The cells, by their dots.
 pub const D0: u8 = 0;
@@ -172,7 +173,7 @@ const IN_NUM: u64 = USUAL_AT << Mode::Num as u64;
 const IN_UNDER: u64 = USUAL_AT << Mode::Under as u64;
 
 // What a class is: its number, the modes in which it is read as usual, and the mode after it then.
-const AS_LETTER_A: u64 = CLASS_AT * LETTER_A
+const AS_LETTER_A: u64 = CLASS_AT * Class::LetterA as u64
     + THEN_AT * Mode::Mixed as u64
     + IN_FREE
     + IN_LONE
@@ -182,7 +183,7 @@ const AS_LETTER_A: u64 = CLASS_AT * LETTER_A
     + IN_OWING
     + IN_DASH;
 
-const AS_B_TO_J: u64 = CLASS_AT * B_TO_J
+const AS_B_TO_J: u64 = CLASS_AT * Class::BToJ as u64
     + THEN_AT * Mode::Mixed as u64
     + IN_FREE
     + IN_LONE
@@ -192,7 +193,7 @@ const AS_B_TO_J: u64 = CLASS_AT * B_TO_J
     + IN_OWING
     + IN_DASH;
 
-const AS_LETTER_O: u64 = CLASS_AT * LETTER_O
+const AS_LETTER_O: u64 = CLASS_AT * Class::LetterO as u64
     + THEN_AT * Mode::Mixed as u64
     + IN_FREE
     + IN_LONE
@@ -206,7 +207,7 @@ const AS_LETTER_O: u64 = CLASS_AT * LETTER_O
     + IN_NUM
     + IN_UNDER;
 
-const AS_OTHER_LETTER: u64 = CLASS_AT * OTHER_LETTER
+const AS_OTHER_LETTER: u64 = CLASS_AT * Class::OtherLetter as u64
     + THEN_AT * Mode::Mixed as u64
     + IN_FREE
     + IN_LONE
@@ -220,7 +221,7 @@ const AS_OTHER_LETTER: u64 = CLASS_AT * OTHER_LETTER
     + IN_NUM
     + IN_UNDER;
 
-const AS_STOP: u64 = CLASS_AT * STOP
+const AS_STOP: u64 = CLASS_AT * Class::Stop as u64
     + THEN_AT * Mode::Free as u64
     + IN_FREE
     + IN_LONE
@@ -233,7 +234,7 @@ const AS_STOP: u64 = CLASS_AT * STOP
     + IN_WHOLE2
     + IN_UNDER;
 
-const AS_COMMA: u64 = CLASS_AT * COMMA
+const AS_COMMA: u64 = CLASS_AT * Class::Comma as u64
     + THEN_AT * Mode::Free as u64
     + IN_FREE
     + IN_LONE
@@ -246,21 +247,7 @@ const AS_COMMA: u64 = CLASS_AT * COMMA
     + IN_WHOLE2
     + IN_UNDER;
 
-const AS_SIGN_OR_LOW: u64 = CLASS_AT * SIGN_OR_LOW
-    + THEN_AT * Mode::Free as u64
-    + IN_FREE
-    + IN_LONE
-    + IN_MIXED
-    + IN_END
-    + IN_HYPHEN
-    + IN_FEM
-    + IN_PERCENT
-    + IN_DASH
-    + IN_WHOLE2
-    + IN_NUM
-    + IN_UNDER;
-
-const AS_MARK_OR_LOW: u64 = CLASS_AT * MARK_OR_LOW
+const AS_SIGN_OR_LOW: u64 = CLASS_AT * Class::SignOrLow as u64
     + THEN_AT * Mode::Free as u64
     + IN_FREE
     + IN_LONE
@@ -274,7 +261,21 @@ const AS_MARK_OR_LOW: u64 = CLASS_AT * MARK_OR_LOW
     + IN_NUM
     + IN_UNDER;
 
-const AS_SIGN: u64 = CLASS_AT * SIGN
+const AS_MARK_OR_LOW: u64 = CLASS_AT * Class::MarkOrLow as u64
+    + THEN_AT * Mode::Free as u64
+    + IN_FREE
+    + IN_LONE
+    + IN_MIXED
+    + IN_END
+    + IN_HYPHEN
+    + IN_FEM
+    + IN_PERCENT
+    + IN_DASH
+    + IN_WHOLE2
+    + IN_NUM
+    + IN_UNDER;
+
+const AS_SIGN: u64 = CLASS_AT * Class::Sign as u64
     + THEN_AT * Mode::Free as u64
     + IN_FREE
     + IN_LONE
@@ -306,7 +307,7 @@ static WORDS: [u64; BYTES] = [
     AS_OTHER_LETTER + POINT_AT * 0x6d + CAPITAL_AT * 0x4d, // 134: M m
     AS_OTHER_LETTER + POINT_AT * 0x73 + CAPITAL_AT * 0x53, // 234: S s
     AS_OTHER_LETTER + POINT_AT * 0x70 + CAPITAL_AT * 0x50, // 1234: P p
-    CLASS_AT * SEPARATOR + KIND_AT * 0, // 5
+    CLASS_AT * Class::Separator as u64 + KIND_AT * 0, // 5
     AS_B_TO_J + POINT_AT * 0x65 + CAPITAL_AT * 0x45 + FIGURE_AT * 0x35, // 15: 5 E e
     AS_SIGN_OR_LOW + POINT_AT * 0x3a + LOWER_AT * 0x33, // 25: 3 :
     AS_B_TO_J + POINT_AT * 0x68 + CAPITAL_AT * 0x48 + FIGURE_AT * 0x38, // 125: 8 H h
@@ -314,7 +315,7 @@ static WORDS: [u64; BYTES] = [
     AS_LETTER_O + POINT_AT * 0x6f + CAPITAL_AT * 0x4f, // 135: O o º
     AS_MARK_OR_LOW + LOWER_AT * 0x36 + KIND_AT * 1, // 235: ! 6 ¡
     AS_OTHER_LETTER + POINT_AT * 0x72 + CAPITAL_AT * 0x52, // 1235: R r
-    CLASS_AT * PREFIX + KIND_AT * 1, // 45
+    CLASS_AT * Class::Prefix as u64 + KIND_AT * 1, // 45
     AS_B_TO_J + POINT_AT * 0x64 + CAPITAL_AT * 0x44 + FIGURE_AT * 0x34, // 145: 4 D d
     AS_B_TO_J + POINT_AT * 0x6a + CAPITAL_AT * 0x4a + FIGURE_AT * 0x30, // 245: 0 J j
     AS_B_TO_J + POINT_AT * 0x67 + CAPITAL_AT * 0x47 + FIGURE_AT * 0x37, // 1245: 7 G g
@@ -322,15 +323,15 @@ static WORDS: [u64; BYTES] = [
     AS_OTHER_LETTER + POINT_AT * 0x6e + CAPITAL_AT * 0x4e, // 1345: N n
     AS_OTHER_LETTER + POINT_AT * 0x74 + CAPITAL_AT * 0x54, // 2345: T t
     AS_OTHER_LETTER + POINT_AT * 0x71 + CAPITAL_AT * 0x51, // 12345: Q q
-    CLASS_AT * PREFIX + KIND_AT * 2, // 6
+    CLASS_AT * Class::Prefix as u64 + KIND_AT * 2, // 6
     NOTHING, // 16
     AS_MARK_OR_LOW + LOWER_AT * 0x35 + KIND_AT * 0, // 26: 5 ? ¿
     AS_SIGN + POINT_AT * 0x28, // 126: (
-    CLASS_AT * LINE + POINT_AT * 0x2d, // 36: -
+    CLASS_AT * Class::Line as u64 + POINT_AT * 0x2d, // 36: -
     AS_OTHER_LETTER + POINT_AT * 0x75 + CAPITAL_AT * 0x55, // 136: U u
     AS_MARK_OR_LOW + LOWER_AT * 0x38 + KIND_AT * 2, // 236: 8 « »
     AS_OTHER_LETTER + POINT_AT * 0x76 + CAPITAL_AT * 0x56, // 1236: V v
-    CLASS_AT * CAPITAL_SIGN, // 46
+    CLASS_AT * Class::CapitalSign as u64, // 46
     NOTHING, // 146
     NOTHING, // 246
     NOTHING, // 1246
@@ -340,17 +341,17 @@ static WORDS: [u64; BYTES] = [
     NOTHING, // 12346
     NOTHING, // 56
     NOTHING, // 156
-    CLASS_AT * LOW_ONLY + LOWER_AT * 0x34, // 256: 4
+    CLASS_AT * Class::LowOnly as u64 + LOWER_AT * 0x34, // 256: 4
     AS_OTHER_LETTER + POINT_AT * 0xfc + CAPITAL_AT * 0xdc, // 1256: Ü ü
-    CLASS_AT * LOW_ONLY + LOWER_AT * 0x30, // 356: 0
+    CLASS_AT * Class::LowOnly as u64 + LOWER_AT * 0x30, // 356: 0
     AS_OTHER_LETTER + POINT_AT * 0x7a + CAPITAL_AT * 0x5a, // 1356: Z z
     AS_SIGN_OR_LOW + POINT_AT * 0x3d + LOWER_AT * 0x37, // 2356: 7 =
     AS_OTHER_LETTER + POINT_AT * 0xe1 + CAPITAL_AT * 0xc1, // 12356: Á á
-    CLASS_AT * PREFIX + KIND_AT * 3, // 456
+    CLASS_AT * Class::Prefix as u64 + KIND_AT * 3, // 456
     NOTHING, // 1456
     AS_OTHER_LETTER + POINT_AT * 0x77 + CAPITAL_AT * 0x57, // 2456: W w
     AS_OTHER_LETTER + POINT_AT * 0xf1 + CAPITAL_AT * 0xd1, // 12456: Ñ ñ
-    CLASS_AT * FIGURE_SIGN, // 3456
+    CLASS_AT * Class::FigureSign as u64, // 3456
     AS_OTHER_LETTER + POINT_AT * 0x79 + CAPITAL_AT * 0x59, // 13456: Y y
     AS_OTHER_LETTER + POINT_AT * 0xfa + CAPITAL_AT * 0xda, // 23456: Ú ú
     NOTHING, // 123456

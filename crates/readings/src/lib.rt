@@ -7,13 +7,14 @@
 
 ghost use Rattle.std.specs.Prelude.{◌≡◌, leb};
 ghost use Rattle.readings.specs.Modes.{owing, number_of, mode_at};
-ghost use Rattle.readings.specs.Acts.{deed_number};
-ghost use Rattle.readings.specs.Fields.{class_in, point_in, capital_in, figure_in, lower_in, kind_in, then_in, deed_of};
+ghost use Rattle.readings.specs.Fields.{class_number, class_in, point_in, capital_in, figure_in, lower_in, kind_in, then_in};
 ghost use Rattle.readings.specs.Words.{word_of};
 ghost use Rattle.readings.specs.Readings.{shown, opener_of, closer_of};
 
 pub mod cells;
 mod table;
+
+pub use table::deed_of;
 
 // What a step gives where a sign starts: its print (`lead` is a code point that has no cell and goes before `point`, if it has one), the place after it, and what
 // it leaves: the mode and the open pairs.
@@ -104,37 +105,41 @@ pub fn mode_at(number: usize) -> Mode
 }
 
 // The classes of cells: all that the table asks of one.
-const NOTHING: u64 = 0;
-
-const LETTER_A: u64 = 1;
-
-const B_TO_J: u64 = 2;
-
-const LETTER_O: u64 = 3;
-
-const OTHER_LETTER: u64 = 4;
-
-const STOP: u64 = 5;
-
-const COMMA: u64 = 6;
-
-const SIGN_OR_LOW: u64 = 7;
-
-const MARK_OR_LOW: u64 = 8;
-
-const LOW_ONLY: u64 = 9;
-
-const SIGN: u64 = 10;
-
-const LINE: u64 = 11;
-
-const CAPITAL_SIGN: u64 = 12;
-
-const FIGURE_SIGN: u64 = 13;
-
-const SEPARATOR: u64 = 14;
-
-const PREFIX: u64 = 15;
+#[derive(Clone, Copy, PartialEq, Eq)]
+pub enum Class {
+    // begins no sign
+    Nothing,
+    // a, 1, and ª
+    LetterA,
+    // b to j, and a digit
+    BToJ,
+    // o, and º
+    LetterO,
+    // another letter
+    OtherLetter,
+    // full stop
+    Stop,
+    // comma, and a lower digit
+    Comma,
+    // a sign, and a lower digit
+    SignOrLow,
+    // a pair mark, and a lower digit
+    MarkOrLow,
+    // a lower digit
+    LowOnly,
+    // a sign
+    Sign,
+    // 36: a hyphen, or half of U+2014
+    Line,
+    // 46
+    CapitalSign,
+    // 3456
+    FigureSign,
+    // 5
+    Separator,
+    // another cell with which longer signs begin
+    Prefix,
+}
 
 // What is read at a place (tools/readings.txt says what each deed is).
 #[derive(Clone, Copy, PartialEq, Eq)]
@@ -162,8 +167,6 @@ pub enum Deed {
 // The fields of a cell's word, from the lowest: where each stands, and how many values it has room for. What is asked of most cells is where the machine
 // finds it at once: the modes lowest, the mode after it highest.
 const USUAL_AT: u64 = 1;
-
-const MODE_PLACES: usize = 16;
 
 const POINT_AT: u64 = 65536;
 
@@ -201,9 +204,6 @@ const RUN_BETWEEN: u64 = 281474976710656;
 // How many bits a code point has in a cell's word within a run, and in its word as the second of a sign.
 pub const POINT_BITS: usize = 16;
 
-// How many classes a row of the table has room for.
-const TABLE_ROW: usize = 16;
-
 // No code point, in a field of a word and at a kind that is none.
 pub const NO_POINT: u32 = 0;
 
@@ -228,10 +228,27 @@ pub fn point_of(cell: u8) -> Option<u32>
 }
 
 // The class of a cell, by its word.
-pub fn class_in(word: u64) -> usize
-    ensures { result ≡ class_in word }
+pub fn class_in(word: u64) -> Class
+    ensures { class_number result ≡ class_in word }
 {
-    (word / CLASS_AT % CLASS_PLACES) as usize
+    match word / CLASS_AT % CLASS_PLACES {
+        0 => Class::Nothing,
+        1 => Class::LetterA,
+        2 => Class::BToJ,
+        3 => Class::LetterO,
+        4 => Class::OtherLetter,
+        5 => Class::Stop,
+        6 => Class::Comma,
+        7 => Class::SignOrLow,
+        8 => Class::MarkOrLow,
+        9 => Class::LowOnly,
+        10 => Class::Sign,
+        11 => Class::Line,
+        12 => Class::CapitalSign,
+        13 => Class::FigureSign,
+        14 => Class::Separator,
+        _ => Class::Prefix,
+    }
 }
 
 // The small letter or the sign that the cell is alone.
@@ -274,13 +291,6 @@ pub fn then_in(word: u64) -> Mode
     ensures { result ≡ mode_at (then_in word) }
 {
     mode_at((word / THEN_AT) as usize)
-}
-
-// What the table says of a mode and a class. (Both are below 16, so that the remainders are they.)
-pub fn deed_of(mode: Mode, class: usize) -> Deed
-    ensures { deed_number result ≡ deed_of (number_of mode) class }
-{
-    table::deed_at(mode.number() % MODE_PLACES * TABLE_ROW + class % TABLE_ROW)
 }
 
 // The openers and the closers, by kind; the kinds have the numbers of the rules (crates/rules/specs/Pairs.antt), and those that are none yet have no mark.
