@@ -3,7 +3,7 @@
 use mathlib.Core.Path.{◌≡◌, refl, sym, ap, ◌∙◌, subst}
 use mathlib.Core.Bool.{Bool, true, false, ◌&&◌, ◌||◌, not, cond, beq, true≢false}
 use mathlib.Core.List.{List, [], ◌∷◌}
-use Prim.Native.Nat.{ℕ, ◌+◌, ◌*◌, ◌/◌, ◌%◌, ◌^◌, ◌<◌}
+use Prim.Native.Nat.{ℕ, ◌+◌, ◌*◌, ◌/◌, ◌%◌, ◌^◌, ◌≤◌, ◌<◌}
 use native.Mathlib.Omega.{arith}
 use lib.Dec.{T, eqb, ltb, eqb→eq, ltb→lt}
 use borrow.Author.Tests.{ne_eqb}
@@ -97,6 +97,11 @@ act_small BarOfFraction = omega arith
 act_small DigitUnder = omega arith
 act_small TheHyphen = omega arith
 act_small TheDash = omega arith
+
+pub fault_great : (x : Fault) → act.questions ≤ fault_number x
+fault_great NoSign = omega arith
+fault_great OutsideForm = omega arith
+fault_great SharesCells = omega arith
 
 pub settled_act : (a : Act) (f : Future) → settled_by (act_number a) f ≡ act_number a
 settled_act a f = settled_low (act_number a) f (act_small a)

@@ -3,6 +3,7 @@ use mathlib.Core.Path.{◌≡◌}
 use mathlib.Core.Bool.{Bool, true, ◌&&◌, ◌||◌, not, beq}
 use mathlib.Core.List.{List, [], ◌∷◌}
 use Prim.Native.Nat.{ℕ, ◌/◌, ◌%◌, ◌^◌, ◌<◌}
+use native.Mathlib.Omega.{arith}
 use lib.Dec.{T, eqb, ltb, eqb→eq, ltb→lt}
 use Rattle.rules.specs.Cells.{dots}
 use Rattle.rules.specs.Sorts.{Sort, Table, capital, class, class_number, ◌is◌, is_digit_cell}
@@ -14,6 +15,9 @@ use Rattle.rules.proofs.Finite.{holds, Hold, hold, below, at_below, implies, and
 use Rattle.entries.specs.States.{capitals, states}
 use Rattle.entries.specs.SignWords.{sign_of}
 use Rattle.entries.specs.Entries.{classes, class_in, mark_in, then_in, usual_in, then_of, usual_states, bits, marks, mark_number, usuals_of, word, entry_of}
+use Rattle.entries.specs.Numbers.{state_number}
+use Rattle.entries.specs.declared.State.{State}
+use Rattle.entries.specs.declared.State.TheVariants.{Free, Capitals, Mixed, Number, Lowered, Ordinal, Barred, Under, Guarded, Hyphened, Dashed}
 use Rattle.entries.proofs.Keys.{at_every}
 
 -- what is written as usual in a state has no mark, and is of a class that is usual there
@@ -80,3 +84,17 @@ worded =
       class_small = λ c. ltb→lt (class_in (entry_of castilian c)) classes (at c).1.1.1.1.1.1.0;
       then_small = λ c. ltb→lt (then_in (entry_of castilian c)) states (at c).1.1.1.1.1.1.1.0;
     }
+
+-- a state of the code is one of them
+pub state_small : (s : State) → state_number s < states
+state_small Free = omega arith
+state_small Capitals = omega arith
+state_small Mixed = omega arith
+state_small Number = omega arith
+state_small Lowered = omega arith
+state_small Ordinal = omega arith
+state_small Barred = omega arith
+state_small Under = omega arith
+state_small Guarded = omega arith
+state_small Hyphened = omega arith
+state_small Dashed = omega arith

@@ -1,7 +1,7 @@
 -- The part of the first pass that asks nothing (`draw_usual`): from where it begins it comes on, whatever pairs are open, over what is written as usual and over
 -- capitals in a run that has a small letter; and what it leaves of a run of capitals. For any table that is `Held`. Assumes nothing.
 use mathlib.Core.Path.{◌≡◌, refl, sym, ap, ◌∙◌, subst}
-use mathlib.Core.Bool.{Bool, true, false, cond}
+use mathlib.Core.Bool.{Bool, true, false, ◌&&◌, cond, true≢false}
 use mathlib.Core.List.{List}
 use mathlib.Core.Option.{none}
 use Prim.Native.Nat.{ℕ, ◌+◌, ◌*◌, ◌/◌, ◌%◌, ◌^◌, ◌≤◌, ◌<◌}
@@ -19,13 +19,16 @@ use Rattle.rules.proofs.Sides.{mixed_next}
 use Rattle.entries.specs.States.{capitals, mixed, states}
 use Rattle.entries.specs.SignWords.{count_of}
 use Rattle.entries.specs.Entries.{entry_of, class_in, sign_in, then_in, mark_in, usual_in, then_of, usual_states, bits, mark_number}
+use Rattle.entries.specs.Numbers.{state_number}
+use Rattle.entries.specs.declared.Entry.{Entry}
+use Rattle.entries.specs.declared.State.{State}
 use Rattle.deeds.specs.Acts as act
 use Rattle.deeds.specs.Stages.{deed_of, settled_by}
 use Rattle.deeds.proofs.Machine.{mixed_capital, then_small, usual_from_capitals, usual_in_capitals}
 use Rattle.turns.specs.Ahead.{future_at}
 use Rattle.turns.proofs.Ahead.{future_step}
 use Rattle.passes.specs.Middle.{Mid, Carried}
-use Rattle.passes.specs.Passes.{sign_by}
+use Rattle.passes.specs.Passes.{sign_by, capital_among_small}
 use Rattle.passes.proofs.Going.{Held, ahead}
 use Rattle.passes.proofs.Drawing.{passed_none, passed_usual, went_deed, went_usual, mid_on}
 
@@ -50,7 +53,12 @@ pub two_cells : (e : ℕ) → 2 ≡ count_of (sign_by act.one_capital_way e)
 unfolding sign_by
 two_cells e = omega arith
 
-some_same : (w x : ℕ) → ◌≡◌ {A = rust.Option ℕ} (Some w) (Some x) → w ≡ x
+-- tests that are true together
+pub and_true : (a b : Bool) → a && b ≡ true → (a ≡ true) × (b ≡ true)
+and_true true b e = (refl, e)
+and_true false b e = absurd (true≢false (sym e))
+
+some_same : (w x : Entry) → ◌≡◌ {A = rust.Option Entry} (Some w) (Some x) → w ≡ x
 some_same w x q = cc
 
 -- what `signs`, `state`, `n` and `i` are between two turns, from the signs, the state, the count and the place at the beginning
@@ -80,12 +88,11 @@ module _ (tb : Table) (h : Held tb) (text signs₁ : List ℕ) (begun counted fr
         carries = λ signs₀ opened m. m;
       }
 
-  module _ (signs : List ℕ) (state n i : ℕ) (u : Under tb text signs₁ signs begun counted from state n i) where
-    abbrev e : ℕ
-    e = entry_of tb (get_or text i 0)
-
-    at_place : (x : rust.Option ℕ) → ((w : ℕ) → x ≡ Some w → (i < length text) × (w ≡ e)) → (x ≡ None → length text ≤ i) → (i < length text → usual_in e state ≡ false)
-        → Carried tb text signs₁ signs begun counted from (record { place = i; entry = x; state = state; cells = n })
+  -- the place reached, with the state there
+  module _ (signs : List ℕ) (s : State) (n i : ℕ) (u : Under tb text signs₁ signs begun counted from (state_number s) n i) where
+    at_place : (x : rust.Option Entry) → ((w : Entry) → x ≡ Some w → (i < length text) × (w.word ≡ entry_of tb (get_or text i 0))) → (x ≡ None → length text ≤ i)
+        → (i < length text → usual_in (entry_of tb (get_or text i 0)) (state_number s) ≡ false)
+        → Carried tb text signs₁ signs begun counted from (record { place = i; entry = x; state = s; cells = n })
     at_place x word no_word unusual =
         record {
           on = u.on;
@@ -99,15 +106,19 @@ module _ (tb : Table) (h : Held tb) (text signs₁ : List ℕ) (begun counted fr
           carries = u.carries;
         }
 
-    pub reached : i < length text → (w : ℕ) → w ≡ e → usual_in e state ≡ false
-        → Carried tb text signs₁ signs begun counted from (record { place = i; entry = Some w; state = state; cells = n })
-    reached l w is_w unusual = at_place (Some w) (λ x q. (l, sym (some_same w x q) ∙ is_w)) (λ q. cc) (λ k. unusual)
+    pub reached : i < length text → (w : Entry) → w.word ≡ entry_of tb (get_or text i 0) → usual_in (entry_of tb (get_or text i 0)) (state_number s) ≡ false
+        → Carried tb text signs₁ signs begun counted from (record { place = i; entry = Some w; state = s; cells = n })
+    reached l w is_w unusual = at_place (Some w) (λ x q. (l, ap (λ (v : Entry). v.word) (sym (some_same w x q)) ∙ is_w)) (λ q. cc) (λ k. unusual)
 
     pub reached_end : (place : ℕ) → place ≡ length text → i ≡ place
-        → Carried tb text signs₁ signs begun counted from (record { place = place; entry = None; state = state; cells = n })
+        → Carried tb text signs₁ signs begun counted from (record { place = place; entry = None; state = s; cells = n })
     reached_end place is_end at_end =
-        subst (λ (k : ℕ). Carried tb text signs₁ signs begun counted from (record { place = k; entry = None; state = state; cells = n })) at_end
+        subst (λ (k : ℕ). Carried tb text signs₁ signs begun counted from (record { place = k; entry = None; state = s; cells = n })) at_end
         (at_place None (λ x q. cc) (λ q. omega arith) (λ k. absurd (omega arith)))
+
+  module _ (signs : List ℕ) (state n i : ℕ) (u : Under tb text signs₁ signs begun counted from state n i) where
+    abbrev e : ℕ
+    e = entry_of tb (get_or text i 0)
 
     module _ (l : i < length text) (w k : ℕ) (new : List ℕ) (count : ℕ) (is_new : new ≡ set signs i w) (is_count : count ≡ n + k) where
       -- s is the state after it: of a run of capitals only where this one is, and as long as it is, the run leaves open what is ahead
@@ -156,7 +167,7 @@ module _ (tb : Table) (h : Held tb) (text signs₁ : List ℕ) (begun counted fr
           is_then : s ≡ then_of here
           is_then = is_s ∙ h.words.then_is (get_or text i 0)
 
-      pub under_capital : state ≡ mixed → class_in e ≡ class_number capital → w ≡ sign_by act.one_capital_way e → k ≡ 2
+      under_capital : state ≡ mixed → class_in e ≡ class_number capital → w ≡ sign_by act.one_capital_way e → k ≡ 2
           → Under tb text signs₁ new begun counted from state count (i + 1)
       unfolding mark_number
       under_capital is_mixed capital_is is_w is_k =
@@ -176,3 +187,9 @@ module _ (tb : Table) (h : Held tb) (text signs₁ : List ℕ) (begun counted fr
               sym (ap (λ (s : ℕ). settled_by (deed_of s (class_in e)) (ahead tb h text i past)) is_mixed
               ∙ ap (λ (c : ℕ). settled_by (deed_of mixed c) (ahead tb h text i past)) capital_is
               ∙ mixed_capital (ahead tb h text i past))
+
+      pub under_apart : capital_among_small state e ≡ true → w ≡ sign_by act.one_capital_way e → k ≡ 2
+          → Under tb text signs₁ new begun counted from state count (i + 1)
+      under_apart q =
+          let b = and_true (eqb state mixed) (eqb (class_in e) (class_number capital)) q in
+          under_capital (eqb-true state mixed b.0) (eqb-true (class_in e) (class_number capital) b.1)

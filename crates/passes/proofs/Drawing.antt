@@ -9,7 +9,7 @@ use Prim.Native.Nat.{ℕ, ◌+◌, ◌*◌, ◌/◌, ◌%◌, ◌≤◌, ◌<◌
 use native.Mathlib.Omega.{arith}
 use lib.Dec.{eqb}
 use lib.ListN.{length, take, set, get_or, length-append, length-set}
-use borrow.Author.Tests.{eq-eqb, ne_eqb}
+use borrow.Author.Tests.{eq-eqb, ne_eqb, eqb-true, eqb-false}
 use Rattle.rules.specs.Cells.{Row}
 use Rattle.rules.specs.Sorts.{Table, class}
 use Rattle.rules.specs.Pairs.{Opens, mark_of, fits, turn}
@@ -22,6 +22,7 @@ use Rattle.rules.proofs.Rows.{whole_row}
 use Rattle.entries.specs.States.{free as free_state, states}
 use Rattle.entries.specs.SignWords.{cells_in, count_of}
 use Rattle.entries.specs.Entries.{entry_of, class_in, sign_in, then_in, mark_in, usual_in, marks, mark_number}
+use Rattle.entries.specs.Numbers.{mark_told}
 use Rattle.entries.proofs.SignWords.{cells_length}
 use Rattle.pairs.specs.Opened.{open_states, opens_of, kind_by, opener_by, pairs_by}
 use Rattle.std.specs.declared.option.Option as rust
@@ -47,6 +48,21 @@ pub record Passed (tb : Table) (text : List ℕ) (opened i opens : ℕ) : Type 0
 -- a number that is not 0
 pub some_number : (m : ℕ) → (m ≡ 0 → ⊥) → 0 < m
 some_number m e = ⊎_elim (λ l. absurd (e (omega (arith, l)))) (λ l. l) (le_or_lt m 0)
+
+-- a mark that an entry tells of is its number, and is not 0; and none is 0
+pub told_mark : (n m : ℕ) → mark_told n ≡ Some m → (m ≡ n) × (0 < m)
+told_mark n m e = go (eqb n 0) refl e
+  where
+    go : (b : Bool) → eqb n 0 ≡ b → ◌≡◌ {A = rust.Option ℕ} (cond b None (Some n)) (Some m) → (m ≡ n) × (0 < m)
+    go true q e = (cc, cc)
+    go false q e = let s : n ≡ m = cc in (sym s, subst (λ (k : ℕ). 0 < k) s (some_number n (eqb-false n 0 q)))
+
+pub told_none : (n : ℕ) → mark_told n ≡ None → n ≡ 0
+told_none n e = go (eqb n 0) refl e
+  where
+    go : (b : Bool) → eqb n 0 ≡ b → ◌≡◌ {A = rust.Option ℕ} (cond b None (Some n)) None → n ≡ 0
+    go true q e = eqb-true n 0 q
+    go false q e = cc
 
 module _ (tb : Table) (h : Held tb) (text : List ℕ) where
   mark_none : (x : Option (ℕ × Bool)) → mark_number x ≡ 0 → x ≡ none

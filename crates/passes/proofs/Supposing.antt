@@ -20,6 +20,8 @@ use Rattle.rules.proofs.Sides.{mixed_next, row_on}
 use Rattle.entries.specs.States.{capitals, mixed}
 use Rattle.entries.specs.SignWords.{count_of, sign_of_two, third_of}
 use Rattle.entries.specs.Entries.{entry_of, class_in, usual_in, first_in}
+use Rattle.entries.specs.Numbers.{state_number}
+use Rattle.entries.specs.declared.Entry.{Entry}
 use Rattle.deeds.specs.Acts as act
 use Rattle.deeds.specs.Stages.{deed_of, settled_by, Supposed}
 use Rattle.deeds.proofs.Machine.{settled_mixed, capitals_only}
@@ -31,13 +33,9 @@ use Rattle.passes.specs.Middle.{Mid, Supposing, Carried}
 use Rattle.passes.specs.declared.Reached.{Reached}
 use Rattle.passes.proofs.Going.{Held}
 use Rattle.passes.proofs.Drawing.{Passed, state_small, went_deed, mid_on}
-use Rattle.passes.proofs.Carrying.{two_cells}
+use Rattle.passes.proofs.Carrying.{and_true, two_cells}
 
--- tests that are true together, and a choice that is false
-and_true : (a b : Bool) → a && b ≡ true → (a ≡ true) × (b ≡ true)
-and_true true b e = (refl, e)
-and_true false b e = absurd (true≢false (sym e))
-
+-- a choice that is false
 cond_false : (b x : Bool) → (b ≡ true → x ≡ false) → cond b x false ≡ false
 cond_false true x f = f refl
 cond_false false x f = refl
@@ -87,21 +85,21 @@ module _ (tb : Table) (h : Held tb) (text signs₀ : List ℕ) where
 
   -- WHAT ASKS NOTHING IS DRAWN, from place i on
   module _ {signs new : List ℕ} {opened state n i : ℕ} (v : Supposing tb text signs₀ signs opened state n i) {r : Reached} (c : Carried tb text signs new state n i r) where
-    small_told : (w : ℕ) → r.entry ≡ Some w → small_among_capitals r.state w ≡ eqb r.state capitals && is_small (class_at tb text r.place)
+    small_told : (w : Entry) → r.entry ≡ Some w → small_among_capitals (state_number r.state) w.word ≡ eqb (state_number r.state) capitals && is_small (class_at tb text r.place)
     small_told w is_w =
-        ap (λ (w : ℕ). small_among_capitals r.state w) (c.word w is_w).1
-        ∙ ap (λ (k : ℕ). eqb r.state capitals && ltb k (class_number capital)) (h.words.class_is (get_or text r.place 0))
-        ∙ ap (λ (b : Bool). eqb r.state capitals && b)
+        ap (λ (w : ℕ). small_among_capitals (state_number r.state) w) (c.word w is_w).1
+        ∙ ap (λ (k : ℕ). eqb (state_number r.state) capitals && ltb k (class_number capital)) (h.words.class_is (get_or text r.place 0))
+        ∙ ap (λ (b : Bool). eqb (state_number r.state) capitals && b)
         (beq_same (ltb (class_number (class_at tb text r.place)) (class_number capital)) (is_small (class_at tb text r.place))
         (classes.at (λ k. beq (ltb (class_number k) (class_number capital)) (is_small k)) tt (class_at tb text r.place)))
 
     -- up to a small letter in a run of capitals
-    module _ (w : ℕ) (is_w : r.entry ≡ Some w) (e : small_among_capitals r.state w ≡ true) where
-      both : (eqb r.state capitals ≡ true) × (is_small (class_at tb text r.place) ≡ true)
-      both = and_true (eqb r.state capitals) (is_small (class_at tb text r.place)) (sym (small_told w is_w) ∙ e)
+    module _ (w : Entry) (is_w : r.entry ≡ Some w) (e : small_among_capitals (state_number r.state) w.word ≡ true) where
+      both : (eqb (state_number r.state) capitals ≡ true) × (is_small (class_at tb text r.place) ≡ true)
+      both = and_true (eqb (state_number r.state) capitals) (is_small (class_at tb text r.place)) (sym (small_told w is_w) ∙ e)
 
       pub was_supposed : state ≡ capitals
-      was_supposed = c.still (eqb-true r.state capitals both.0)
+      was_supposed = c.still (eqb-true (state_number r.state) capitals both.0)
 
       anew : (1 ≤ i) × (1 ≤ n) × Mid tb text signs₀ (set signs (i - 1) (alone_of (get_or signs (i - 1) 0))) opened mixed (n - 1) i
       anew =
@@ -127,28 +125,28 @@ module _ (tb : Table) (h : Held tb) (text signs₀ : List ℕ) where
           ∙ sym (take-set-lt i signs j x b)))
 
     -- up to anything else: no small letter is ahead in a run of capitals
-    module _ (none : eqb r.state capitals ≡ true → mixed_next (future_at tb text r.place) ≡ false) where
-      right_so : Mid tb text signs₀ new opened r.state r.cells r.place
+    module _ (none : eqb (state_number r.state) capitals ≡ true → mixed_next (future_at tb text r.place) ≡ false) where
+      right_so : Mid tb text signs₀ new opened (state_number r.state) r.cells r.place
       right_so =
           c.carries signs₀ opened
-          (v.right (λ q. c.run q ∙ cond_false (eqb r.state capitals) (mixed_next (future_at tb text r.place)) none))
+          (v.right (λ q. c.run q ∙ cond_false (eqb (state_number r.state) capitals) (mixed_next (future_at tb text r.place)) none))
 
-    pub stood : (w : ℕ) → r.entry ≡ Some w → small_among_capitals r.state w ≡ false → Mid tb text signs₀ new opened r.state r.cells r.place
+    pub stood : (w : Entry) → r.entry ≡ Some w → small_among_capitals (state_number r.state) w.word ≡ false → Mid tb text signs₀ new opened (state_number r.state) r.cells r.place
     stood w is_w e = right_so (λ q. no_letter_here tb h.zero text r.place (no_capital q (is_capital (class_at tb text r.place)) refl) (no_small q))
       where
         l : r.place < length text
         l = (c.word w is_w).0
 
-        no_capital : eqb r.state capitals ≡ true → (b : Bool) → is_capital (class_at tb text r.place) ≡ b → b ≡ false
+        no_capital : eqb (state_number r.state) capitals ≡ true → (b : Bool) → is_capital (class_at tb text r.place) ≡ b → b ≡ false
         no_capital q true z =
             sym (h.words.capital_usual (get_or text r.place 0) z)
-            ∙ ap (usual_in (entry_of tb (get_or text r.place 0))) (sym (eqb-true r.state capitals q)) ∙ c.asks l
+            ∙ ap (usual_in (entry_of tb (get_or text r.place 0))) (sym (eqb-true (state_number r.state) capitals q)) ∙ c.asks l
         no_capital q false z = refl
 
-        no_small : eqb r.state capitals ≡ true → is_small (class_at tb text r.place) ≡ false
+        no_small : eqb (state_number r.state) capitals ≡ true → is_small (class_at tb text r.place) ≡ false
         no_small q = ap (λ (b : Bool). b && is_small (class_at tb text r.place)) (sym q) ∙ sym (small_told w is_w) ∙ e
 
-    pub stood_at_end : r.entry ≡ None → Mid tb text signs₀ new opened r.state r.cells r.place
+    pub stood_at_end : r.entry ≡ None → Mid tb text signs₀ new opened (state_number r.state) r.cells r.place
     stood_at_end e = right_so (λ q. end_here tb h.zero text r.place (c.no_word e))
 
   -- A TURN, by a deed that may be supposed

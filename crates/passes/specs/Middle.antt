@@ -8,6 +8,8 @@ use Rattle.rules.proofs.Sides.{mixed_next, row_on, verdict_on}
 use Rattle.rules.proofs.Rows.{whole_row}
 use Rattle.entries.specs.States.{capitals, mixed, states}
 use Rattle.entries.specs.Entries.{entry_of, usual_in}
+use Rattle.entries.specs.Numbers.{state_number}
+use Rattle.entries.specs.declared.Entry.{Entry}
 use Rattle.pairs.specs.Opened.{open_states, opens_of}
 use Rattle.deeds.specs.Stages.{stage_at}
 use Rattle.turns.specs.Ahead.{items_from, future_at}
@@ -44,11 +46,11 @@ pub record Supposing (tb : Table) (text signs₀ signs : List ℕ) (opened state
 -- not written as usual; the state is that of a run of capitals only where it was so before, and as long as it is, whether a small letter is ahead in that run is open
 pub record Carried (tb : Table) (text signs new : List ℕ) (state n i : ℕ) (r : Reached) : Type 0 where
   pub on : i ≤ r.place
-  pub word : (w : ℕ) → r.entry ≡ Some w → (r.place < length text) × (w ≡ entry_of tb (get_or text r.place 0))
+  pub word : (w : Entry) → r.entry ≡ Some w → (r.place < length text) × (w.word ≡ entry_of tb (get_or text r.place 0))
   pub no_word : r.entry ≡ None → length text ≤ r.place
-  pub asks : r.place < length text → usual_in (entry_of tb (get_or text r.place 0)) r.state ≡ false
+  pub asks : r.place < length text → usual_in (entry_of tb (get_or text r.place 0)) (state_number r.state) ≡ false
   pub same : length new ≡ length signs
   pub kept : take i new ≡ take i signs
-  pub still : r.state ≡ capitals → state ≡ capitals
-  pub run : state ≡ capitals → mixed_next (future_at tb text i) ≡ cond (eqb r.state capitals) (mixed_next (future_at tb text r.place)) false
-  pub carries : (signs₀ : List ℕ) (opened : ℕ) → Mid tb text signs₀ signs opened state n i → Mid tb text signs₀ new opened r.state r.cells r.place
+  pub still : state_number r.state ≡ capitals → state ≡ capitals
+  pub run : state ≡ capitals → mixed_next (future_at tb text i) ≡ cond (eqb (state_number r.state) capitals) (mixed_next (future_at tb text r.place)) false
+  pub carries : (signs₀ : List ℕ) (opened : ℕ) → Mid tb text signs₀ signs opened state n i → Mid tb text signs₀ new opened (state_number r.state) r.cells r.place

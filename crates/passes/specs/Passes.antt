@@ -8,7 +8,7 @@ use Rattle.rules.specs.Rows.{Verdict, good, bad, verdict_of}
 use Rattle.rules.proofs.Rows.{whole_row}
 use Rattle.entries.specs.Chosen.{choose}
 use Rattle.entries.specs.SignWords.{third_of, cells_in, sign_of_one, sign_of_two, sign_of_three}
-use Rattle.entries.specs.States.{capitals}
+use Rattle.entries.specs.States.{capitals, mixed}
 use Rattle.entries.specs.Entries.{class_in, sign_in, first_in, lower_in}
 use Rattle.deeds.specs.Acts as act
 use Rattle.rows.specs.Laid.{laid}
@@ -54,6 +54,10 @@ alone_of w = sign_of_two dots46 (third_of w)
 -- THE FIRST PASS. A small letter in a run that is supposed to be of capitals only. (The classes below `capital` are those of small letters.)
 abbrev pub small_among_capitals : ℕ → ℕ → Bool
 small_among_capitals s e = eqb s capitals && ltb (class_in e) (class_number capital)
+
+-- a capital in a run that has a small letter
+abbrev pub capital_among_small : ℕ → ℕ → Bool
+capital_among_small s e = eqb s mixed && eqb (class_in e) (class_number capital)
 
 abbrev pub faults : ℕ → List (ℕ × Refusal)
 faults i = (act.no_sign, NoSign i) ∷ (act.outside_form, OutsideForm i) ∷ []

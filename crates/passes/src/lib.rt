@@ -3,20 +3,18 @@
 // `transcribe_normal` is what other crates call; what the functions promise is specs/Passes.antt.
 #![tactic(auto)]
 
-ghost use Rattle.std.specs.Prelude.{◌≡◌, ◌≤◌, ◌<◌, ◌*◌, length, take, Ok};
+ghost use Rattle.std.specs.Prelude.{◌≡◌, ◌≤◌, ◌*◌, length, take, Ok};
 ghost use Rattle.rules.specs.Castilian.{castilian};
 ghost use Rattle.rules.specs.Refusals.{longest_text};
 ghost use Rattle.rules.proofs.Plain.{plainly};
-ghost use Rattle.entries.specs.States.{states};
+ghost use Rattle.entries.specs.Numbers.{state_number};
+ghost use Rattle.deeds.specs.Numbers.{way_index, fault_number};
 ghost use Rattle.writing.specs.Joined.{joined};
 ghost use Rattle.passes.specs.Middle.{Carried};
-ghost use Rattle.passes.specs.Passes.{sign_by, alone_of, small_among_capitals, fault_by, measured_of, Drawn, fitted_by, written_by, answer_of, out_of};
+ghost use Rattle.passes.specs.Passes.{sign_by, alone_of, small_among_capitals, capital_among_small, fault_by, measured_of, Drawn, fitted_by, written_by, answer_of, out_of};
 
-use deeds::{
-    ALL_CAPITALS, BARE, FIRST_DIGIT, FIRST_LOWER, LOWER, NO_SIGN, ONE_CAPITAL, OUTSIDE_FORM,
-    QUESTIONS, SEPARATED, WAYS,
-};
-use entries::{CAPITAL, CAPITALS, FREE, MIXED};
+use deeds::{Fault, Way};
+use entries::{Class, Entry, State};
 
 // Why a print is refused; the lent row is then as it was. Paper 01's number and second number for each are given with the promise (`refusal_of` of the crate
 // `transcriber`).
@@ -41,8 +39,8 @@ pub enum Refusal {
 #[derive(Clone, Copy)]
 pub struct Reached {
     pub place: usize,
-    pub entry: Option<u64>,
-    pub state: usize,
+    pub entry: Option<Entry>,
+    pub state: State,
     pub cells: usize,
 }
 
@@ -65,18 +63,19 @@ const DOTS_3456: u8 = 60;
 const NO_CELL: u32 = 0;
 
 // The sign of a code point that is written in this way.
-fn sign_of(way: usize, entry: u64) -> u32
-    ensures { result ≡ sign_by way entry }
+#[tactic(auto, unfolding(crate::specs::Passes::sign_by))]
+fn sign_of(way: Way, entry: Entry) -> u32
+    ensures { result ≡ sign_by (way_index way) entry.word }
 {
     match way {
-        BARE => entries::sign_in(entry),
-        ONE_CAPITAL => entries::sign::two_cells(DOTS_46, entries::first_in(entry)),
-        ALL_CAPITALS => entries::sign::three_cells(DOTS_46, DOTS_46, entries::first_in(entry)),
-        SEPARATED => entries::sign::two_cells(DOTS_5, entries::first_in(entry)),
-        FIRST_DIGIT => entries::sign::two_cells(DOTS_3456, entries::first_in(entry)),
-        FIRST_LOWER => entries::sign::two_cells(DOTS_3456, entries::lower_in(entry)),
-        LOWER => entries::sign::one_cell(entries::lower_in(entry)),
-        _ => NO_CELL,
+        Way::Bare => entry.sign(),
+        Way::OneCapital => entries::sign::two_cells(DOTS_46, entry.first()),
+        Way::AllCapitals => entries::sign::three_cells(DOTS_46, DOTS_46, entry.first()),
+        Way::Separated => entries::sign::two_cells(DOTS_5, entry.first()),
+        Way::FirstDigit => entries::sign::two_cells(DOTS_3456, entry.first()),
+        Way::FirstLower => entries::sign::two_cells(DOTS_3456, entry.lower()),
+        Way::Lower => entries::sign::one_cell(entry.lower()),
+        Way::Silent => NO_CELL,
     }
 }
 
@@ -87,50 +86,60 @@ fn alone(sign: u32) -> u32
     entries::sign::two_cells(DOTS_46, entries::sign::third_of(sign))
 }
 
-// Is it a small letter in a run that is supposed to be of capitals only? (The classes below CAPITAL are those of small letters.)
-fn is_small_among_capitals(state: usize, entry: u64) -> bool
-    ensures { result ≡ small_among_capitals state entry }
+// Is it a small letter in a run that is supposed to be of capitals only?
+fn is_small_among_capitals(state: State, entry: Entry) -> bool
+    ensures { result ≡ small_among_capitals (state_number state) entry.word }
 {
-    state == CAPITALS && entries::class_in(entry) < CAPITAL
+    matches!(
+        (state, entry.class()),
+        (State::Capitals, Class::AToJ | Class::OtherSmall)
+    )
 }
 
-// The refusal of a deed that is a fault.
-fn fault_of(deed: usize, place: usize) -> Refusal
-    ensures { result ≡ fault_by deed place }
+// Is it a capital in a run that has a small letter?
+fn is_capital_among_small(state: State, entry: Entry) -> bool
+    ensures { result ≡ capital_among_small (state_number state) entry.word }
 {
-    match deed {
-        NO_SIGN => Refusal::NoSign(place),
-        OUTSIDE_FORM => Refusal::OutsideForm(place),
-        _ => Refusal::SharesCells(place),
+    matches!((state, entry.class()), (State::Mixed, Class::Capital))
+}
+
+// The refusal of a fault at a place.
+#[tactic(auto, unfolding(crate::specs::Passes::fault_by))]
+fn fault_of(fault: Fault, place: usize) -> Refusal
+    ensures { result ≡ fault_by (fault_number fault) place }
+{
+    match fault {
+        Fault::NoSign => Refusal::NoSign(place),
+        Fault::OutsideForm => Refusal::OutsideForm(place),
+        Fault::SharesCells => Refusal::SharesCells(place),
     }
 }
 
 // The signs from a place on, as long as nothing is asked: of code points that are written as usual, with their own cells alone, and of capitals in a run that has
 // a small letter, each with a 46 of its own. Neither is a pair mark. (Most of a text is such, so it has a loop of its own.)
-fn draw_usual(text: &[u32], signs: &mut [u32], from: usize, begun: usize, counted: usize) -> Reached
-    requires { (length text.now ≤ longest_text) × (length text.now ≤ length signs.old) × (from ≤ length text.now) × (counted ≤ 3 * from) × (begun < states) }
-    ensures { Carried castilian (plainly text.now) signs.old signs.new begun counted from result }
+fn draw_usual(text: &[u32], signs: &mut [u32], from: usize, begun: State, counted: usize) -> Reached
+    requires { (length text.now ≤ longest_text) × (length text.now ≤ length signs.old) × (from ≤ length text.now) × (counted ≤ 3 * from) }
+    ensures { Carried castilian (plainly text.now) signs.old signs.new (state_number begun) counted from result }
 {
-    let mut state: usize = begun;
+    let mut state = begun;
     let mut n: usize = counted;
     for i in from..text.len() {
         let entry = entries::entry_of(text[i]);
-        if entries::is_usual(entry, state) {
-            let sign = entries::sign_in(entry);
+        if entry.is_usual(state) {
+            let sign = entry.sign();
             signs[i] = sign;
             n += entries::sign::count_of(sign);
-            state = entries::then_in(entry);
-        } else {
-            if state != MIXED || entries::class_in(entry) != CAPITAL {
-                return Reached {
-                    place: i,
-                    entry: Some(entry),
-                    state,
-                    cells: n,
-                };
-            }
-            signs[i] = sign_of(ONE_CAPITAL, entry);
+            state = entry.then();
+        } else if is_capital_among_small(state, entry) {
+            signs[i] = sign_of(Way::OneCapital, entry);
             n += 2;
+        } else {
+            return Reached {
+                place: i,
+                entry: Some(entry),
+                state,
+                cells: n,
+            };
         }
     }
     Reached {
@@ -151,7 +160,7 @@ fn draw(text: &[u32], signs: &mut [u32]) -> Result<usize, Refusal>
     ensures { (result ≡ measured_of castilian (plainly text.now)) × Drawn result castilian (plainly text.now) (take (length text.now) signs.new) }
 {
     let mut opened: usize = 0;
-    let mut state: usize = FREE;
+    let mut state = State::Free;
     let mut n: usize = 0;
     let mut i: usize = 0;
     while i < text.len() {
@@ -165,30 +174,25 @@ fn draw(text: &[u32], signs: &mut [u32]) -> Result<usize, Refusal>
             Some(entry) if is_small_among_capitals(reached.state, entry) => {
                 signs[i - 1] = alone(signs[i - 1]);
                 n -= 1;
-                state = MIXED;
+                state = State::Mixed;
             }
             Some(entry) => {
                 i = reached.place;
-                let mark = entries::mark_in(entry);
-                if mark != 0 {
+                if let Some(mark) = entry.mark() {
                     let Some(now_open) = pairs::pairs_after(opened, mark) else {
                         return Err(Refusal::PairBroken(i));
                     };
                     opened = now_open;
                 }
-                let told = deeds::deed_of(reached.state, entries::class_in(entry));
-                let deed = if told < QUESTIONS {
-                    told
-                } else {
-                    turns::settled(text, i + 1, told)
+                let told = deeds::deed_of(reached.state, entry.class());
+                let act = match turns::settled(text, i + 1, told) {
+                    Ok(act) => act,
+                    Err(fault) => return Err(fault_of(fault, i)),
                 };
-                if QUESTIONS <= deed {
-                    return Err(fault_of(deed, i));
-                }
-                let sign = sign_of(deed % WAYS, entry);
+                let sign = sign_of(act.way(), entry);
                 signs[i] = sign;
                 n = reached.cells + entries::sign::count_of(sign);
-                state = deed / WAYS;
+                state = act.then();
                 i += 1;
             }
         }

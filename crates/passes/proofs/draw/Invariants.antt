@@ -4,12 +4,13 @@
 use lib.ListN.{length}
 use Rattle.rules.specs.Castilian.{castilian}
 use Rattle.rules.proofs.Plain.{plainly}
+use Rattle.entries.specs.Numbers.{state_number}
 use Rattle.passes.specs.Middle.{Supposing}
 use Rattle.passes.proofs.Supposing.{left}
 use Rattle.passes.proofs.draw.Given as goal
 
 abbrev pub invariant-loop-i : goal.invariant-loop-i
-invariant-loop-i l = Supposing castilian (plainly l.text) l.initial.signs l.signs l.opened l.state l.n l.i
+invariant-loop-i l = Supposing castilian (plainly l.text) l.initial.signs l.signs l.opened (state_number l.state) l.n l.i
 
 abbrev pub decreases-loop-i : goal.decreases-loop-i
-decreases-loop-i l = left (length l.text) l.i l.state
+decreases-loop-i l = left (length l.text) l.i (state_number l.state)
