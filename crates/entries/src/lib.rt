@@ -50,7 +50,8 @@ pub enum State {
 }
 
 // The fields of a word, from the lowest: where each stands, and how many values it has room for. What is asked of most code points stands where the
-// machine finds it at once: the states in which it is written as usual lowest, its sign in a half of its own, the state after it highest.
+// machine finds it at once: the states in which it is written as usual lowest, its sign in a half of its own, the state after it highest. (Numbers in one word, and
+// no struct: a word is one read of a table, docs/DECISIONS.md, 28.)
 const USUAL: u64 = 1; // the states in which it is written as usual, a bit for each; there is room for 16
 
 const CLASS: u64 = 65536; // its class

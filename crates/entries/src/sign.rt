@@ -21,6 +21,7 @@ pub fn count_of(sign: u32) -> usize
     (sign % COUNT_PLACES) as usize
 }
 
+// Its cells. (A function for each: one for all would be told a place, and its caller would have to show that the place is one of three.)
 pub fn first_of(sign: u32) -> u8
     ensures { result ≡ first_of sign }
 {
@@ -39,7 +40,7 @@ pub fn third_of(sign: u32) -> u8
     (sign / THIRD % CELL_PLACES) as u8
 }
 
-// The sign of one, two or three cells. (A cell is below 64, so that the remainder is the cell.)
+// The sign of one, two or three cells. (A cell is below 64, so that the remainder is the cell. One for all would go over the cells it is lent, which is no plainer.)
 pub fn one_cell(first: u8) -> u32
     ensures { result ≡ sign_of_one first }
 {

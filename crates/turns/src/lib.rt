@@ -95,8 +95,7 @@ fn behind_digits(text: &[u32], from: usize) -> usize
 fn form_follows(text: &[u32], from: usize) -> bool
     ensures { result ≡ form_next (future_at castilian text.now from) }
 {
-    let end = behind_digits(text, from);
-    ends_form(text, end)
+    ends_form(text, behind_digits(text, from))
 }
 
 // What a question comes to. "If it has two letters or more and all are capitals, 46-46 stands once before it": of a run that goes on with a capital that is

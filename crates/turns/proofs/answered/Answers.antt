@@ -1,5 +1,5 @@
 -- `answered`: each question is decided by what its function found, and of a run by whether a capital follows (`supposed_run`). Assumes nothing.
-use mathlib.Core.Path.{◌≡◌, sym, ap, ◌∙◌}
+use mathlib.Core.Path.{sym, ap, ◌∙◌}
 use mathlib.Core.Logic.{inl}
 use mathlib.Core.Bool.{true, false}
 use Prim.Native.Nat.{ℕ}

@@ -1,9 +1,9 @@
 -- `settled`: a question is decided by what follows; anything else stays as it is. Assumes nothing.
-use mathlib.Core.Path.{◌≡◌, sym, ap, ◌∙◌}
+use mathlib.Core.Path.{sym, ap, ◌∙◌}
 use mathlib.Core.Logic.{inl}
 use Rattle.rules.specs.Castilian.{castilian}
 use Rattle.deeds.specs.Numbers.{deed_number}
-use Rattle.deeds.specs.Stages.{Supposed, settled_by}
+use Rattle.deeds.specs.Stages.{settled_by}
 use Rattle.deeds.specs.declared.Deed.{Deed}
 use Rattle.deeds.proofs.Machine.{settled_act, settled_fault}
 use Rattle.turns.specs.Ahead.{future_at}
