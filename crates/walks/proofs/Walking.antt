@@ -14,7 +14,6 @@ use borrow.Author.Tests.{eq-eqb, ne_eqb, le-leb, lt-leb, leb-true}
 use Rattle.rules.specs.Cells.{Row}
 use Rattle.rules.specs.Signs.{Sign, print_of, cells_of}
 use Rattle.rules.specs.Screen.{sign_at}
-use Rattle.rules.specs.Refusals.{longest_row}
 use Rattle.rules.proofs.Finite.{le_or_lt, below, at_below}
 use Rattle.readings.proofs.Settling.{is_true}
 use Rattle.pairs.specs.Opened.{open_states}
@@ -24,7 +23,6 @@ use Rattle.readings.specs.Words.{word_of}
 use Rattle.readings.specs.Readings.{no_point, a_step, step_of, step_at, usual_by, a_mark, one}
 use Rattle.readings.specs.Left.{left, add_sign}
 use Rattle.readings.specs.Print.{points}
-use Rattle.signs.specs.Among.{alone_cell}
 use Rattle.signs.specs.Runs.{no_run, run_of, field_of, Quick, InRun}
 use Rattle.signs.proofs.Cases.{alone_modes, alone_step, as_usual_lem, word_there}
 use Rattle.readings.specs.declared.Step.{Step}
@@ -352,14 +350,6 @@ module _ (row : Row) (at : ℕ) (m : Mode) (w : Stand) (s : rust.Option Step) wh
   run_alike e some_run (n, f, h) =
       quick_alike n (run_small n (omega (arith, f, e, some_run))) (f ∙ e, λ z. absurd (omega (arith, z, some_run))) h
 
-pub alone_more : {row : Row} {at k : ℕ} → Alone row at k → k < length row → alone_cell (get_or row k 0) ≡ true → Alone row at (k + 1)
-alone_more {row} {at} {k} are inside is =
-    record {
-      forward = omega (arith, are.forward);
-      within = omega (arith, inside);
-      alone = λ i h l. ⊎_elim (λ j. subst (λ (x : ℕ). alone_cell (get_or row x 0) ≡ true) (omega (arith, j, l)) is) (λ j. are.alone i h j) (le_or_lt k i);
-    }
-
 -- CELLS THAT ARE ONLY COUNTED: each is a turn, whether nothing is begun or a run with a small letter is
 module _ (row : Row) (all : AllCells row) (at o : ℕ) (few : o < open_states) where
   -- the mode behind j of them
@@ -384,7 +374,7 @@ module _ (row : Row) (all : AllCells row) (at o : ℕ) (few : o < open_states) w
       let on = leads_turn before.1 turn inside in (
         on.0,
         subst (λ (k : ℕ). Leads row (length row) at m o k (then_in (word_of (get_or row (at + j) 0))) o on.0) (omega arith)
-        (subst (λ (i : ℕ). Leads row (length row) at m o (at + j + 1) i o on.0) back on.1),
+            (subst (λ (i : ℕ). Leads row (length row) at m o (at + j + 1) i o on.0) back on.1),
         omega (arith, on.2, before.2),
         modes,
       )

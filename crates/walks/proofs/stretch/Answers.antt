@@ -1,6 +1,5 @@
 -- `stretch`: a sign is a turn, whether it is read as usual or by the inner step, and what follows alike is more of them. Assumes nothing.
 use mathlib.Core.Path.{sym, ap, ◌∙◌}
-use mathlib.Core.List.{◌∷◌, []}
 use mathlib.Core.Logic.{inl, ⊎_elim}
 use Prim.Native.Nat.{ℕ}
 use native.Mathlib.Omega.{arith}
@@ -19,7 +18,7 @@ pub usual-step-requires : goal.usual-step-requires
 usual-step-requires c = (omega (arith, c.loop-at-test.true, c.loop-at.invariant.1, c.requires.1, c.requires.0.0), c.loop-at.invariant.0.leads.opens, kind_known c.args.row.now c.loop-at.at (number_of c.loop-at.mode) c.word_of-word.result (number_small c.loop-at.mode) (c.word_of-word.ensures ∙ word_there c.args.row.now c.loop-at.at (omega (arith, c.loop-at-test.true, c.loop-at.invariant.1, c.requires.1))) (sym c.is_usual.ensures ∙ c.if-is_usual.true))
 
 pub loop-at-preserved-then-is_usual : goal.loop-at-preserved-then-is_usual
-loop-at-preserved-then-is_usual c = 
+loop-at-preserved-then-is_usual c =
     let t = usual_here c.loop-at.invariant.0 (omega (arith, c.loop-at-test.true, c.loop-at.invariant.1, c.requires.1)) c.word_of-word.result c.word_of-word.ensures (sym c.is_usual.ensures ∙ c.if-is_usual.true) c.usual-step.result c.usual-step.ensures in
     (runs_turn c.loop-at.invariant.0 c.usual-step.result t.0 (omega (arith, c.loop-at-test.true, c.loop-at.invariant.1)) c.put-count.ensures, c.loop-at.invariant.1, omega (arith, c.loop-at.invariant.2, t.0.forward, c.put-count.ensures.0, t.1), λ h. inl (omega (arith, runs_forward c.loop-at.invariant.0, t.0.forward)))
 
@@ -30,10 +29,9 @@ pub returns-in_default : goal.returns-in_default
 returns-in_default c = astray_here c.loop-at.invariant.0 (omega (arith, c.loop-at-test.true, c.loop-at.invariant.1, c.requires.1)) (sym c.sign_at.ensures ∙ c.in_default.is)
 
 pub limit_behind-limit-requires : goal.limit_behind-limit-requires
-limit_behind-limit-requires c = 
+limit_behind-limit-requires c =
     let t = turn_here c.loop-at.invariant.0 (omega (arith, c.loop-at-test.true, c.loop-at.invariant.1, c.requires.1)) c.in-Some.step (sym c.sign_at.ensures ∙ c.in-Some.is) in
-    let m = runs_turn c.loop-at.invariant.0 c.in-Some.step t (omega (arith, c.loop-at-test.true, c.loop-at.invariant.1)) c.put-count-else-is_usual.ensures in
-    (
+    let m = runs_turn c.loop-at.invariant.0 c.in-Some.step t (omega (arith, c.loop-at-test.true, c.loop-at.invariant.1)) c.put-count-else-is_usual.ensures in (
       c.loop-at.invariant.1,
       omega (arith, c.loop-at.invariant.2, c.loop-at-test.true, t.forward, c.put-count-else-is_usual.ensures.0, (points_width c.in-Some.step.lead c.in-Some.step.point).1, m.wrote.0),
       omega (arith, t.within, c.requires.0.0),
@@ -42,18 +40,18 @@ limit_behind-limit-requires c =
     )
 
 pub alike-last-requires : goal.alike-last-requires
-alike-last-requires c = 
+alike-last-requires c =
     let t = turn_here c.loop-at.invariant.0 (omega (arith, c.loop-at-test.true, c.loop-at.invariant.1, c.requires.1)) c.in-Some.step (sym c.sign_at.ensures ∙ c.in-Some.is) in
     let m = runs_turn c.loop-at.invariant.0 c.in-Some.step t (omega (arith, c.loop-at-test.true, c.loop-at.invariant.1)) c.put-count-else-is_usual.ensures in
     (runs_stands m c.requires.0, omega (arith, c.limit_behind-limit.ensures.0, c.requires.1), c.limit_behind-limit.ensures.1)
 
 pub loop-at-smaller-then-goes_on : goal.loop-at-smaller-then-goes_on
-loop-at-smaller-then-goes_on c = 
+loop-at-smaller-then-goes_on c =
     let t = turn_here c.loop-at.invariant.0 (omega (arith, c.loop-at-test.true, c.loop-at.invariant.1, c.requires.1)) c.in-Some.step (sym c.sign_at.ensures ∙ c.in-Some.is) in
     omega (arith, t.forward, runs_forward c.alike-last.ensures.0, c.alike-last.ensures.0.leads.within)
 
 pub loop-at-preserved-then-goes_on : goal.loop-at-preserved-then-goes_on
-loop-at-preserved-then-goes_on c = 
+loop-at-preserved-then-goes_on c =
     let t = turn_here c.loop-at.invariant.0 (omega (arith, c.loop-at-test.true, c.loop-at.invariant.1, c.requires.1)) c.in-Some.step (sym c.sign_at.ensures ∙ c.in-Some.is) in
     let m = runs_turn c.loop-at.invariant.0 c.in-Some.step t (omega (arith, c.loop-at-test.true, c.loop-at.invariant.1)) c.put-count-else-is_usual.ensures in
     let e = c.limit_behind-limit.ensures in
@@ -63,7 +61,7 @@ pub loop-at-smaller : goal.loop-at-smaller
 loop-at-smaller c = let t = turn_here c.loop-at.invariant.0 (omega (arith, c.loop-at-test.true, c.loop-at.invariant.1, c.requires.1)) c.in-Some.step (sym c.sign_at.ensures ∙ c.in-Some.is) in omega (arith, t.forward, t.within)
 
 pub loop-at-preserved : goal.loop-at-preserved
-loop-at-preserved c = 
+loop-at-preserved c =
     let t = turn_here c.loop-at.invariant.0 (omega (arith, c.loop-at-test.true, c.loop-at.invariant.1, c.requires.1)) c.in-Some.step (sym c.sign_at.ensures ∙ c.in-Some.is) in
     let m = runs_turn c.loop-at.invariant.0 c.in-Some.step t (omega (arith, c.loop-at-test.true, c.loop-at.invariant.1)) c.put-count-else-is_usual.ensures in
     let e = c.limit_behind-limit.ensures in
