@@ -215,7 +215,7 @@ const SCRAP: usize = 128;
 
 // A stretch that nothing is written of; it is counted from 0 on.
 fn unwritten(row: &[u8], from: Stand, stop: usize) -> Result<Stand, NoText>
-    requires { Stands row.now from × (stop ≤ length row.now) }
+    requires { Stands row.now (uncounted from) × (stop ≤ length row.now) }
     ensures { Strides row.now stop (uncounted from) [] [] result }
 {
     let mut scrap = [NO_POINT; SCRAP];

@@ -1,4 +1,5 @@
 -- `walk`: a stretch is more signs, whether it is written or only counted. Assumes nothing.
+use Prim.Native.Nat.{zero-le}
 use native.Mathlib.Omega.{arith}
 use Rattle.std.proofs.lemmas.Result.{err_from_is_err_and}
 use Rattle.walks.specs.Walks.{goes_on}
@@ -15,7 +16,7 @@ returns-in_err-next c =
     rw (p.1, p.2) (runs_strayed c.loop-now.invariant c.in_err-next.ensures)
 
 pub unwritten-requires : goal.unwritten-requires
-unwritten-requires c = (runs_stands c.loop-now.invariant c.requires.0, c.requires.1)
+unwritten-requires c = let h = runs_stands c.loop-now.invariant c.requires.0 in ((h.0, h.1, h.2, zero-le), c.requires.1)
 
 pub returns-in_err-read : goal.returns-in_err-read
 returns-in_err-read c =
