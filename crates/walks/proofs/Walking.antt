@@ -12,28 +12,27 @@ use lib.Dec.{T, eqb, leb}
 use lib.ListN.{length, drop, get_or, length-append}
 use borrow.Author.Tests.{eq-eqb, ne_eqb, le-leb, lt-leb, leb-true}
 use Rattle.rules.specs.Cells.{Row}
+use Rattle.rules.specs.Pairs.{kinds}
 use Rattle.rules.specs.Signs.{Sign, print_of, cells_of}
 use Rattle.rules.specs.Screen.{sign_at}
-use Rattle.rules.specs.Refusals.{longest_row}
 use Rattle.rules.proofs.Finite.{le_or_lt, below, at_below}
 use Rattle.readings.proofs.Settling.{is_true}
 use Rattle.pairs.specs.Opened.{open_states}
 use Rattle.readings.specs.Modes.{mode_count, number_of, free, mixed, owing, dash, whole2, num, low, under, mid}
-use Rattle.readings.specs.Fields.{point_in, then_in, kind_in, usual_in}
+use Rattle.readings.specs.Fields.{point_in, then_in, kind_in, usual_in, cell_of}
 use Rattle.readings.specs.Words.{word_of}
 use Rattle.readings.specs.Readings.{no_point, a_step, step_of, step_at, usual_by, a_mark, one}
 use Rattle.readings.specs.Left.{left, add_sign}
 use Rattle.readings.specs.Print.{points}
-use Rattle.signs.specs.Among.{alone_cell}
 use Rattle.signs.specs.Runs.{no_run, run_of, field_of, Quick, InRun}
-use Rattle.signs.proofs.Cases.{alone_modes, alone_step, as_usual_lem, word_there}
+use Rattle.signs.proofs.Cases.{alone_modes, alone_step, as_usual_lem, word_there, kind_known}
 use Rattle.readings.specs.declared.Step.{Step}
 use Rattle.readings.specs.declared.Mode.{Mode}
 use Rattle.std.specs.declared.option.Option as rust
 use Rattle.std.specs.Prelude.{Some, None, Result, Ok, Err}
 use Rattle.readings.proofs.Turning.{Turn, turn_of, none_left}
 use Rattle.readings.proofs.Numbers.{number_back, number_small}
-use Rattle.walks.specs.Walks.{Wrote, Room, Stands, uncounted, Kin, Alike, Strides, strides_on, strides_nowhere, most_points, add_signs, Starts, CellsFrom, Leads, Runs, Goes, goes_on, goes_nowhere, AllCells, Alone, Tallied}
+use Rattle.walks.specs.Walks.{Wrote, Room, Stands, uncounted, Kin, Alike, Reads, Strides, strides_on, strides_nowhere, most_points, add_signs, Starts, CellsFrom, Leads, Runs, Goes, goes_on, goes_nowhere, AllCells, Alone, Tallied}
 use Rattle.walks.specs.declared.Stand.{Stand}
 use Rattle.walks.specs.declared.NoText.{NoText}
 use Rattle.readings.proofs.Print.{points_width}
@@ -268,20 +267,34 @@ module _ {row : Row} {stop : ℕ} {v w : Stand} {t₀ t : List ℕ} (mid : Runs 
   runs_astray : Nowhere row w → Strides row stop v t₀ t (Err (record { cells = w.at }))
   runs_astray e = strides_nowhere w.at mid.leads.within mid.leads.cells (leads_nowhere mid.leads e) mid.wrote.0
 
-  -- the sign that starts there, and one that is read as usual, which has one code point
-  module _ (inside : w.at < length row) where
-    pub turn_here : (x : Step) → step_at row w.at (number_of w.mode) w.opened ≡ Some x → TurnOf row w x
-    turn_here = turn_there row w inside mid.leads.opens
+  -- the sign that starts there, before a place up to which there is room; and one that is read as usual, which has one code point
+  module _ {limit : ℕ} (here : w.at < limit) (upto : limit ≤ stop) (all : stop ≤ length row) where
+    pub inside_here : w.at < length row
+    inside_here = omega (arith, here, upto, all)
 
-    pub usual_here : (word : ℕ) → word ≡ word_of (get_or row w.at 0) → usual_in word (number_of w.mode) ≡ true → (x : Step) → Some x ≡ step_of w.at w.opened (usual_by word)
-        → TurnOf row w x × (length (points x.lead x.point) ≡ 1)
-    usual_here word e u x f = (
-      turn_here x (sym (f ∙ as_usual_lem row w.at (number_of w.mode) w.opened word (e ∙ word_there row w.at inside) u)),
-      ap (λ (l : rust.Option ℕ). length (points l x.point)) (usual_one w.at w.opened word x f),
-    )
+    pub turn_here : (x : Step) → step_at row w.at (number_of w.mode) w.opened ≡ Some x → TurnOf row w x
+    turn_here = turn_there row w inside_here mid.leads.opens
+
+    pub put_here : (x : Step) → step_at row w.at (number_of w.mode) w.opened ≡ Some x
+        → {r : ℕ} {t' : List ℕ} → (r ≡ w.count + length (points x.lead x.point)) × Wrote t t' w.count (points x.lead x.point) → Runs row stop v t₀ t' (behind x r)
+    put_here x e = runs_turn x (turn_here x e) (omega (arith, here, upto))
+
+    module _ (word : ℕ) (its : word ≡ word_of (get_or row w.at 0)) where
+      pub word_here : word ≡ word_of (cell_of row w.at)
+      word_here = its ∙ word_there row w.at inside_here
+
+      module _ (u : usual_in word (number_of w.mode) ≡ true) where
+        pub kind_here : point_in word ≡ no_point → kind_in word < kinds
+        kind_here = kind_known row w.at (number_of w.mode) word (number_small w.mode) word_here u
+
+        pub usual_here : (x : Step) → Some x ≡ step_of w.at w.opened (usual_by word) → (step_at row w.at (number_of w.mode) w.opened ≡ Some x) × (length (points x.lead x.point) ≡ 1)
+        usual_here x e = (
+          sym (e ∙ as_usual_lem row w.at (number_of w.mode) w.opened word word_here u),
+          ap (λ (l : rust.Option ℕ). length (points l x.point)) (usual_one w.at w.opened word x e),
+        )
 
     pub astray_here : step_at row w.at (number_of w.mode) w.opened ≡ None → Strides row stop v t₀ t (Err (record { cells = w.at }))
-    astray_here e = runs_astray (nowhere_there row w inside mid.leads.opens e)
+    astray_here e = runs_astray (nowhere_there row w inside_here mid.leads.opens e)
 
   pub runs_strayed : {t' : List ℕ} {e : NoText} → Strides row stop w t t' (Err e) → Goes row stop v t₀ t' (Err e)
   runs_strayed (strides_nowhere k within cells none_left same) =
@@ -322,10 +335,13 @@ alike_turn row w v inside few same x (inr (e, (y, f, none_before, opened, kin)))
       subst (λ (s : Step). Kin (number_of s.mode) (number_of v.mode)) g kin,
     )
 
-module _ {row : Row} {stop : ℕ} {v w : Stand} {t₀ t : List ℕ} (mid : Runs row stop v t₀ t w) (here : w.at < stop) (inside : stop ≤ length row) (same : w.opened ≡ v.opened)
-    (x : Step) {s : rust.Option Step} (alike : Alike row w.at w.mode v s) (some : s ≡ Some x) where
+module _ {row : Row} {stop : ℕ} {v w : Stand} {t₀ t : List ℕ} (mid : Runs row stop v t₀ t w) (here : w.at < stop) (all : stop ≤ length row) (same : w.opened ≡ v.opened)
+    (kin : Kin (number_of w.mode) (number_of v.mode)) {pre : ℕ → Mode → Type 0} {post : ℕ → Mode → rust.Option Step → Type 0} (reads : Reads pre post row v)
+    {s : rust.Option Step} (read : post w.at w.mode s) (x : Step) (some : s ≡ Some x) where
   pub again_turn : TurnOf row w x × (x.lead ≡ None) × (x.opened ≡ v.opened) × Kin (number_of x.mode) (number_of v.mode)
-  again_turn = alike_turn row w v (omega (arith, here, inside)) mid.leads.opens same x (subst (Alike row w.at w.mode v) some alike)
+  again_turn =
+      let inside : w.at < length row = omega (arith, here, all) in
+      alike_turn row w v inside mid.leads.opens same x (subst (Alike row w.at w.mode v) some ((reads w.at w.mode inside kin).1 s read))
 
   pub runs_again : (room : ℕ) {r : ℕ} {t' : List ℕ} → Room stop w.at w.count room → (r ≡ w.count + length (points x.lead x.point)) × Wrote t t' w.count (points x.lead x.point)
       → Runs row stop v t₀ t' (record { at = x.next; mode = x.mode; opened = v.opened; count = r }) × Room stop x.next r room × Kin (number_of x.mode) (number_of v.mode)
@@ -352,14 +368,6 @@ module _ (row : Row) (at : ℕ) (m : Mode) (w : Stand) (s : rust.Option Step) wh
   run_alike e some_run (n, f, h) =
       quick_alike n (run_small n (omega (arith, f, e, some_run))) (f ∙ e, λ z. absurd (omega (arith, z, some_run))) h
 
-pub alone_more : {row : Row} {at k : ℕ} → Alone row at k → k < length row → alone_cell (get_or row k 0) ≡ true → Alone row at (k + 1)
-alone_more {row} {at} {k} are inside is =
-    record {
-      forward = omega (arith, are.forward);
-      within = omega (arith, inside);
-      alone = λ i h l. ⊎_elim (λ j. subst (λ (x : ℕ). alone_cell (get_or row x 0) ≡ true) (omega (arith, j, l)) is) (λ j. are.alone i h j) (le_or_lt k i);
-    }
-
 -- CELLS THAT ARE ONLY COUNTED: each is a turn, whether nothing is begun or a run with a small letter is
 module _ (row : Row) (all : AllCells row) (at o : ℕ) (few : o < open_states) where
   -- the mode behind j of them
@@ -384,7 +392,7 @@ module _ (row : Row) (all : AllCells row) (at o : ℕ) (few : o < open_states) w
       let on = leads_turn before.1 turn inside in (
         on.0,
         subst (λ (k : ℕ). Leads row (length row) at m o k (then_in (word_of (get_or row (at + j) 0))) o on.0) (omega arith)
-        (subst (λ (i : ℕ). Leads row (length row) at m o (at + j + 1) i o on.0) back on.1),
+            (subst (λ (i : ℕ). Leads row (length row) at m o (at + j + 1) i o on.0) back on.1),
         omega (arith, on.2, before.2),
         modes,
       )

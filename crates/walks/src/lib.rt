@@ -153,7 +153,8 @@ fn limit_behind(
 
 // "each step gives the print of the next sign and the place after it." From a place, where a sign starts, with what the signs before it leave, as long as the next sign starts before
 // the place `stop` and there is room for what is read: so of room nothing is asked at each sign. The print is written behind the code points that are counted. Behind some
-// signs more may follow alike, and those are read at once. (Behind most signs none may: their modes are the lowest.)
+// signs more may follow alike, and those are read at once. (Behind most signs none may: their modes are the lowest. What the loop knows is not carried as a Stand, which
+// takes twice the time.)
 fn stretch(row: &[u8], from: Stand, stop: usize, text: &mut [u32]) -> Result<Stand, NoText>
     requires { Stands row.now from × (stop ≤ length row.now) × (length text.old ≤ longest_row) × (from.count < length text.old) }
     ensures { Strides row.now stop from text.old text.new result }
@@ -214,21 +215,22 @@ const SCRAP: usize = 128;
 
 // A stretch that nothing is written of; it is counted from 0 on.
 fn unwritten(row: &[u8], from: Stand, stop: usize) -> Result<Stand, NoText>
-    requires { Stands row.now from × (stop ≤ length row.now) }
+    requires { Stands row.now (uncounted from) × (stop ≤ length row.now) }
     ensures { Strides row.now stop (uncounted from) [] [] result }
 {
     let mut scrap = [NO_POINT; SCRAP];
     stretch(row, Stand { count: 0, ..from }, stop, &mut scrap)
 }
 
-// A walk up to the place `stop`, stretch by stretch. Where there is no room any more, what is read is only counted.
+// A walk up to the place `stop`, stretch by stretch. Where there is no room any more, what is read is only counted. (It goes on field by field: copied whole, a Stand is copied
+// with the bytes that are left free between its fields, and a short row takes nearly twice the time.)
 pub fn walk(row: &[u8], from: Stand, stop: usize, text: &mut [u32]) -> Result<Stand, NoText>
     requires { Stands row.now from × (stop ≤ length row.now) × (length text.old ≤ longest_row) }
     ensures { Goes row.now stop from text.old text.new result }
 {
     let mut now = from;
     while now.at < stop {
-        now = if now.count < text.len() {
+        let next = if now.count < text.len() {
             stretch(row, now, stop, text)?
         } else {
             let read = unwritten(row, now, stop)?;
@@ -237,6 +239,10 @@ pub fn walk(row: &[u8], from: Stand, stop: usize, text: &mut [u32]) -> Result<St
                 ..read
             }
         };
+        now.at = next.at;
+        now.mode = next.mode;
+        now.opened = next.opened;
+        now.count = next.count;
     }
     Ok(now)
 }

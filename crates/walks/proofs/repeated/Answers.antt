@@ -8,7 +8,7 @@ pub put-count-requires : goal.put-count-requires
 put-count-requires g c = runs_put c.loop-at.invariant.0 c.requires.0 c.args.stop c.loop-at.invariant.1 c.loop-at-test.true
 
 pub loop-at-smaller : goal.loop-at-smaller
-loop-at-smaller g c = let t = again_turn c.loop-at.invariant.0 c.loop-at-test.true c.requires.1 refl c.in-Some.step ((c.requires.3 c.loop-at.at c.loop-at.mode (omega (arith, c.loop-at-test.true, c.requires.1)) c.loop-at.invariant.2).1 c.next.result c.next.ensures) c.in-Some.is in omega (arith, t.0.forward, t.0.within)
+loop-at-smaller g c = let t = again_turn c.loop-at.invariant.0 c.loop-at-test.true c.requires.1 refl c.loop-at.invariant.2 c.requires.3 c.next.ensures c.in-Some.step c.in-Some.is in omega (arith, t.0.forward, t.0.within)
 
 pub loop-at-preserved : goal.loop-at-preserved
-loop-at-preserved g c = runs_again c.loop-at.invariant.0 c.loop-at-test.true c.requires.1 refl c.in-Some.step ((c.requires.3 c.loop-at.at c.loop-at.mode (omega (arith, c.loop-at-test.true, c.requires.1)) c.loop-at.invariant.2).1 c.next.result c.next.ensures) c.in-Some.is _ c.loop-at.invariant.1 c.put-count.ensures
+loop-at-preserved g c = runs_again c.loop-at.invariant.0 c.loop-at-test.true c.requires.1 refl c.loop-at.invariant.2 c.requires.3 c.next.ensures c.in-Some.step c.in-Some.is _ c.loop-at.invariant.1 c.put-count.ensures

@@ -16,13 +16,13 @@ pub walk-requires : goal.walk-requires
 walk-requires c = (runs_stands (runs_join c.loop-now.invariant (c.tally-near.ensures c.loop-now.text refl)) (c.requires.0, zero-le, omega arith, zero-le), c.part_end-stop.ensures.0, omega (arith, c.loop-now.invariant.wrote.0, c.requires.2))
 
 pub returns-in_default : goal.returns-in_default
-returns-in_default c = 
+returns-in_default c =
     let near = runs_join c.loop-now.invariant (c.tally-near.ensures c.loop-now.text refl) in
     let h = goes_lost c.in_default.ensures in
     goes_nowhere (length c.args.row.now) (omega arith) (λ i a b. c.requires.1 i b) (leads_nowhere near.leads h.0) (h.1 ∙ c.loop-now.invariant.wrote.0)
 
 pub loop-now-smaller : goal.loop-now-smaller
-loop-now-smaller c = 
+loop-now-smaller c =
     let near = runs_forward (c.tally-near.ensures c.loop-now.text refl) in
     let m = goes_runs c.in-Ok.ensures in
     ⊎_elim (λ h. omega (arith, near, runs_forward m.0, h, c.loop-now-test.true))
