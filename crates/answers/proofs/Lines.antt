@@ -13,7 +13,6 @@ use Rattle.rules.specs.Refusals.{Refusal, number_of, second_of}
 use Rattle.rules.proofs.Refusals.{refusal_not_0}
 use Rattle.passes.specs.Passes.{Answer}
 use Rattle.transcriber.specs.Promise as written
-use Rattle.reader.specs.declared.Answer as reading
 use Rattle.reader.specs.Promise as told
 use Rattle.desk.specs.declared.Shown.{Shown}
 use Rattle.desk.specs.Shows.{shown_of, Shows, read_of, ShowsRead}
@@ -33,7 +32,7 @@ refused_number : (a : Answer) (x : Refusal) → written.refusal_of a ≡ some x 
 unfolding shown_of written.numbers_of
 refused_number a x q = rw q (refl, refl)
 
-read_number : (a : reading.Answer) (x : Refusal) → told.refusal_of a ≡ some x → ((read_of a).number ≡ number_of x) × ((read_of a).second ≡ second_of x)
+read_number : (a : told.Answer) (x : Refusal) → told.refusal_of a ≡ some x → ((read_of a).number ≡ number_of x) × ((read_of a).second ≡ second_of x)
 unfolding read_of told.numbers_of
 read_number a x q = rw q (refl, refl)
 
@@ -70,7 +69,7 @@ module _ (line row : List ℕ) (s : Shown) where
       (λ z. absurd (omega (arith, z, n, refusal_not_0 x)), row_refused (length row) line s.number s.second row' x h n (second_is s (shown_of b) e ∙ w.1))
 
 module _ (line text : List ℕ) (s : Shown) where
-  read_told : (a : reading.Answer) (text' : List ℕ) → told.Read castilian (row_of line) text a text' → s ≡ read_of a
+  read_told : (a : told.Answer) (text' : List ℕ) → told.Read castilian (row_of line) text a text' → s ≡ read_of a
       → Told s text' × ReadPrints (length text) line (text_reply s.number s.second text')
   unfolding read_of told.numbers_of
   read_told a text' (told.done t g) e =

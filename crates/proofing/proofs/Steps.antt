@@ -7,7 +7,6 @@ use mathlib.Core.Option.{some}
 use Prim.Native.Nat.{ℕ}
 use native.Mathlib.Omega.{arith}
 use lib.ListN.{take}
-use borrow.Author.Tests.{eq-eqb, ne_eqb}
 use Rattle.rules.specs.Cells.{Row, print}
 use Rattle.rules.specs.Castilian.{castilian}
 use Rattle.rules.specs.Rows.{signs_of}
@@ -16,11 +15,11 @@ use Rattle.rules.proofs.Refusals.{refusal_not_0}
 use Rattle.rules.specs.Answers.{ReadsAs, RowRefused}
 use Rattle.rules.specs.Screen as screen
 use Rattle.rules.specs.Screen.{shows, stays, Stepped, stepped, stayed}
-use Rattle.reader.specs.declared.Answer.{Answer}
-use Rattle.reader.specs.Promise.{refusal_of, numbers_of}
-use Rattle.stepper.specs.declared.Shown as step
+use Rattle.std.specs.Prelude.{Some, None, Err}
+use Rattle.std.specs.declared.option.Option as rust
+use Rattle.reader.specs.Promise.{Answer, refusal_of, numbers_of}
+use Rattle.stepper.specs.Promise as step
 use Rattle.stepper.specs.Promise.{Shows, sign_there, no_sign_there, row_refused}
-use Rattle.readings.proofs.Print.{known}
 use Rattle.desk.specs.declared.Sign as desk
 use Rattle.desk.specs.Shows.{read_of, points_of, sign_of, ShowsSign}
 use Rattle.printing.specs.Printed.{Prints}
@@ -35,12 +34,9 @@ use Rattle.sign_lines.specs.Walk.{Accepted, SignsPrinted}
 use Rattle.proofing.specs.Steps.{StepsPrints, prints_signs, prints_refusal, StepsLine}
 
 -- WHAT THE FIRST STEP TELLS
-sign_number : (lead point next : ℕ) → (points_of lead point next).number ≡ 0
-sign_number lead point next = go (known lead)
-  where
-    go : (lead ≡ 0) ⊎ (lead ≡ 0 → ⊥) → (points_of lead point next).number ≡ 0
-    go (inl e) = rw (eq-eqb lead 0 e) refl
-    go (inr e) = rw (ne_eqb lead 0 e) refl
+sign_number : (lead : rust.Option ℕ) (point next : ℕ) → (points_of lead point next).number ≡ 0
+sign_number None point next = refl
+sign_number (Some lead) point next = refl
 
 numbers_are : (a : Answer) (x : Refusal) → refusal_of a ≡ some x → ((numbers_of a).0 ≡ number_of x) × ((numbers_of a).1 ≡ second_of x)
 unfolding numbers_of
@@ -65,10 +61,10 @@ module _ (r : Row) (n : ℕ) where
 
   told : (s : step.Shown) → Shows castilian r n s → Told (sign_of n s)
   unfolding sign_of read_of
-  told s (sign_there lead point next d) = inl (sign_number lead point next, accepted_of _ d)
+  told s (sign_there c d) = inl (sign_number c.lead c.point c.next, accepted_of _ d)
   told s (no_sign_there d) = inl (refl, accepted_of _ d)
   told s (row_refused a x e d) =
-      let k = numbers_are a x e in
+      let k = numbers_are (Err a) x e in
       inr (record { refusal = x; right = refused_of x d; number = k.0; second = k.1 })
 
   told_of : (g : desk.Sign) → ShowsSign castilian r n g → Told g

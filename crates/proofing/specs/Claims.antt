@@ -1,16 +1,14 @@
 -- What is proved of what `steps` prints, as types; each is proved under the same name in snake case in proofs/Claims.antt. In order: every line has a printed line, and
 -- one; the printed signs join to the text that reading gives; how much room a printed line asks, and what follows where it is lent; worked lines. Not here: that `steps_line`
 -- prints it, which is the function's own promise (`Steps`). Assumes nothing.
-use Rattle.std.specs.Prelude.{List, [], ◌∷◌, ◌++◌, ◌≡◌, ℕ, ◌+◌, ◌*◌, ◌≤◌, length, take}
+use Rattle.std.specs.Prelude.{List, [], ◌∷◌, ◌++◌, ◌≡◌, ℕ, Ok, ◌+◌, ◌*◌, ◌≤◌, length, take}
 use Rattle.rows.specs.Laid.{laid}
 use Rattle.rules.specs.Cells.{Text, print}
 use Rattle.rules.specs.Castilian.{castilian}
 use Rattle.rules.specs.Signs.{Sign}
 use Rattle.rules.specs.Rows.{signs_of}
 use Rattle.rules.specs.Answers.{ReadsAs}
-use Rattle.reader.specs.declared.Answer.{Answer}
-use Rattle.reader.specs.declared.Answer.TheVariants.{Done}
-use Rattle.reader.specs.Promise.{Read}
+use Rattle.reader.specs.Promise.{Answer, Read}
 use Rattle.printing.specs.Printed.{bytes_of_text}
 use Rattle.replies.specs.Replies.{line_end}
 use Rattle.patterns.specs.Patterns.{row_of}
@@ -36,7 +34,7 @@ StepsJoinToText =
     (line : List ℕ) (t : Text) → ReadsAs castilian (row_of line) t
     → (print_parts (signs_of castilian t) ≡ bytes_of_text t)
     × ((lent : List ℕ) (a : Answer) (new : List ℕ) → Read castilian (row_of line) lent a new → length t ≤ length lent
-    → (a ≡ Done (length t)) × (take (length t) new ≡ t))
+    → (a ≡ Ok (length t)) × (take (length t) new ≡ t))
 
 -- three bytes, and at most 26 for each of the 4,096 code points that a text may have
 abbrev pub room_for_steps : ℕ

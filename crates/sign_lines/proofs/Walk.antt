@@ -4,11 +4,9 @@
 -- sign, its end. Assumes nothing.
 use mathlib.Core.Path.{◌≡◌, refl, sym, ap, ◌∙◌, subst}
 use mathlib.Core.List.{List, [], ◌∷◌}
-use mathlib.Core.Logic.{◌⊎◌, inl, inr}
 use Prim.Native.Nat.{ℕ, ◌+◌, ◌≤◌, ◌<◌}
 use native.Mathlib.Omega.{arith}
 use lib.ListN.{length, length-append}
-use borrow.Author.Tests.{eq-eqb, ne_eqb}
 use Rattle.rules.specs.Cells.{Text, Row}
 use Rattle.rules.specs.Castilian.{castilian}
 use Rattle.rules.specs.Signs.{Sign, cells_of}
@@ -20,8 +18,9 @@ use Rattle.rules.proofs.Signs.{signs_join, Filled, filled_signs}
 use Rattle.rules.proofs.Steps.{Left, left_on, step_here}
 use Rattle.readings.specs.Print.{points}
 use Rattle.stepper.specs.Promise.{sign_there}
-use Rattle.stepper.specs.declared.Shown.TheVariants as steps
-use Rattle.readings.proofs.Print.{known}
+use Rattle.stepper.specs.declared.Sign as step
+use Rattle.std.specs.Prelude.{Some, None, Ok}
+use Rattle.std.specs.declared.option.Option as rust
 use Rattle.stepper.proofs.Visiting.{Coded, coded_text}
 use Rattle.desk.specs.declared.Sign as desk
 use Rattle.desk.specs.Shows.{points_of, sign_of, ShowsSign}
@@ -33,33 +32,27 @@ use Rattle.sign_lines.specs.Signs.{sign_line, sign_lines}
 use Rattle.sign_lines.specs.Walk.{shown_text, Accepted, SignsPrinted}
 
 -- THE PRINT OF A STEP
-module _ (lead point next : ℕ) where
-  pub shown_points : shown_text (points_of lead point next) ≡ points lead point
-  shown_points = go (known lead)
-    where
-      go : (lead ≡ 0) ⊎ (lead ≡ 0 → ⊥) → shown_text (points_of lead point next) ≡ points lead point
-      go (inl e) = rw (eq-eqb lead 0 e) refl
-      go (inr e) = rw (ne_eqb lead 0 e) refl
+pub shown_points : (lead : rust.Option ℕ) (point next : ℕ) → shown_text (points_of lead point next) ≡ points lead point
+shown_points None point next = refl
+shown_points (Some lead) point next = refl
 
-  pub next_points : (points_of lead point next).next ≡ next
-  next_points = go (known lead)
-    where
-      go : (lead ≡ 0) ⊎ (lead ≡ 0 → ⊥) → (points_of lead point next).next ≡ next
-      go (inl e) = rw (eq-eqb lead 0 e) refl
-      go (inr e) = rw (ne_eqb lead 0 e) refl
+pub next_points : (lead : rust.Option ℕ) (point next : ℕ) → (points_of lead point next).next ≡ next
+next_points None point next = refl
+next_points (Some lead) point next = refl
 
 -- ONE STEP
 module _ (row : Row) (t : Text) (h : ReadsAs castilian row t) where
   -- the step shows the first sign that is left
-  step_is : (n : ℕ) (s : Sign) (ss : List Sign) → Left castilian sane row t h n (s ∷ ss) → (lead point : ℕ) → s.shown ≡ points lead point
+  step_is : (n : ℕ) (s : Sign) (ss : List Sign) → Left castilian sane row t h n (s ∷ ss) → (lead : rust.Option ℕ) (point : ℕ) → s.shown ≡ points lead point
       → (g : desk.Sign) → ShowsSign castilian row n g → g ≡ points_of lead point (n + length s.taken)
   unfolding sign_of
   step_is n s ss l lead point q g shows_g =
       let next : ℕ = n + length s.taken in
+      let sign : step.Sign = record { lead = lead; point = point; next = next } in
       let e : Stepped castilian row n (shows (record { points = points lead point; next = next })) =
       subst (λ (u : Text). Stepped castilian row n (shows (record { points = u; next = next }))) q (step_here castilian sane row t h n s ss l) in
       one_sign row n g (points_of lead point next) shows_g
-      (record { shown = steps.Sign lead point next; promise = sign_there lead point next e; shows = refl })
+      (record { shown = Ok (Some sign); promise = sign_there sign e; shows = refl })
 
 -- THE WALK
 pub record Walk (row : Row) (first : Page) (place : ℕ) (page : Page) : Type 0 where
