@@ -1,7 +1,7 @@
 // The rows of standard input: a line for each, in dots as the paper writes them, `3456-23-1`; 0 is the blank cell.
 ghost use Rattle.std.specs.Prelude.{◌≤◌, IfSome, length};
 
-use crate::say::Points;
+use crate::say::{Numbers, Points};
 use crate::trial::UNTOUCHED;
 use crate::{say, trial};
 use std::io;
@@ -60,10 +60,10 @@ fn tell_line(rt: &impl Print, line: &[u8]) -> io::Result<()> {
         return say::too_long(rt);
     };
     let answer = trial::tried(rt, &row[..count], &mut text, &mut back)?;
-    let points = Points(&text[..trial::written(answer).min(TEXT_ROOM)]);
+    let points = Points(&text[..answer.unwrap_or(0).min(TEXT_ROOM)]);
     // a line of standard input may be any bytes, which `Display` cannot write
     rt.write_all(line)?;
-    println!(rt; " -> {} {}{points}", answer.number, answer.second)
+    println!(rt; "{}{points}", Numbers(answer))
 }
 
 // Every line.

@@ -1,5 +1,5 @@
 // Either side of each line of the paper: lengths, bytes that are no cells, and room. A line of the report for each, with the answer's two numbers.
-use crate::say::Cells;
+use crate::say::{Cells, Numbers};
 use crate::trial::UNTOUCHED;
 use crate::{say, trial};
 use std::io;
@@ -52,7 +52,7 @@ fn tell(rt: &impl Print, row: &[u8]) -> io::Result<()> {
     let mut text = [UNTOUCHED; TEXT_ROOM];
     let mut back = [BLANK; LONGEST_ROW];
     let answer = trial::tried(rt, row, &mut text, &mut back)?;
-    println!(rt; "{} -> {} {}", Cells(row), answer.number, answer.second)
+    println!(rt; "{}{}", Cells(row), Numbers(answer))
 }
 
 // ---- lengths
@@ -114,7 +114,7 @@ fn tell_room(rt: &impl Print, room: usize) -> io::Result<()> {
     if !trial::is_untouched(&text[..MARGIN]) || !trial::is_untouched(&text[end..]) {
         say::disagrees(rt, "an element outside the room is touched", &row)?;
     }
-    println!(rt; "room {room} -> {} {}", answer.number, answer.second)
+    println!(rt; "room {room}{}", Numbers(answer))
 }
 
 fn rooms(rt: &impl Print) -> io::Result<()> {

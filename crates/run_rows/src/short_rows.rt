@@ -1,5 +1,6 @@
 // Every row of one cell and of two.
 use crate::{say, trial};
+use reader::Refusal;
 use std::io;
 
 // "Cells are bytes 0 to 63"
@@ -12,12 +13,10 @@ pub const SMALL_ROOM: usize = 8;
 fn has_text(rt: &impl Print, row: &[u8]) -> io::Result<bool> {
     let mut text = [trial::UNTOUCHED; SMALL_ROOM];
     let mut back = [0u8; SMALL_ROOM];
-    let answer = trial::tried(rt, row, &mut text, &mut back)?;
-    if answer.number == desk::DONE {
-        return Ok(true);
-    }
-    if answer.number != desk::NO_TEXT {
-        say::disagrees(rt, "neither read nor without a text", row)?;
+    match trial::tried(rt, row, &mut text, &mut back)? {
+        Ok(_) => return Ok(true),
+        Err(Refusal::NoText) => {}
+        Err(_) => say::disagrees(rt, "neither read nor without a text", row)?,
     }
     Ok(false)
 }

@@ -4,6 +4,7 @@ ghost use Rattle.std.specs.Prelude.{◌≤◌, length};
 use crate::short_rows::SMALL_ROOM;
 use crate::{say, trial};
 use std::io;
+use transcriber::{Refusal, transcribe};
 
 // No code point above this has a sign.
 const LAST_POINT: u32 = 0xFFFF;
@@ -24,7 +25,7 @@ const ROWS: usize = 4160;
 // normalising replaces become some that have.)
 fn has_sign(point: u32) -> bool {
     let mut row = [0u8; SMALL_ROOM];
-    desk::numbers(transcriber::transcribe(&[point], &mut row)).number != desk::NO_SIGN
+    !matches!(transcribe(&[point], &mut row), Err(Refusal::NoSign(_)))
 }
 
 // Puts the code points that have a sign at the front of `points`, as far as there is room: how many they are.
@@ -85,8 +86,7 @@ fn check_row(rt: &impl Print, row: &[u8], text: &[u32], rows: &mut [bool]) -> io
     let mut read = [trial::UNTOUCHED; SMALL_ROOM];
     let mut back = [0u8; SMALL_ROOM];
     let answer = trial::tried(rt, row, &mut read, &mut back)?;
-    let read = read.get(..trial::written(answer));
-    if !read.is_some_and(|read| is_normal_of(read, text)) {
+    if !answer.is_ok_and(|count| count <= SMALL_ROOM && is_normal_of(&read[..count], text)) {
         say::disagrees(rt, "another text is read than was written", row)?;
     }
     if let Some(number) = number_of(row)
@@ -100,9 +100,10 @@ fn check_row(rt: &impl Print, row: &[u8], text: &[u32], rows: &mut [bool]) -> io
 // A text, if it is written in one cell or two.
 fn check_text(rt: &impl Print, text: &[u32], rows: &mut [bool]) -> io::Result<()> {
     let mut row = [0u8; SMALL_ROOM];
-    let answer = desk::numbers(transcriber::transcribe(text, &mut row));
-    if answer.number == desk::DONE && answer.second <= MOST_CELLS {
-        check_row(rt, &row[..answer.second], text, rows)?;
+    if let Ok(count) = transcribe(text, &mut row)
+        && count <= MOST_CELLS
+    {
+        check_row(rt, &row[..count], text, rows)?;
     }
     Ok(())
 }

@@ -1,16 +1,13 @@
-// One row: read, transcribed back, and stepped through. An answer's numbers are those that the desk shows.
+// One row: read, transcribed back, and stepped through.
 ghost use Rattle.std.specs.Prelude.{◌≤◌};
 
 use crate::say;
-use desk::{DONE, NEEDS_ROOM};
+use reader::Refusal;
 use std::io;
-use stepper::Shown;
+use stepper::Sign;
 
 // What every element of a lent text holds before a call: it is no code point.
 pub const UNTOUCHED: u32 = 0xFFFFFFFF;
-
-// The `lead` of a sign that shows one code point.
-const NO_LEAD: u32 = 0;
 
 // A place that no row has.
 const FAR_BEHIND: usize = usize::MAX;
@@ -19,15 +16,6 @@ const FAR_BEHIND: usize = usize::MAX;
 const PLACES_ASKED: usize = 64;
 
 const PLACES_PAST: usize = 3;
-
-// How many code points an answer says are written.
-pub fn written(answer: desk::Shown) -> usize {
-    if answer.number == DONE {
-        answer.second
-    } else {
-        0
-    }
-}
 
 // ---- what a call leaves
 
@@ -38,8 +26,7 @@ pub fn is_untouched(part: &[u32]) -> bool {
 
 // Does the text give just this row? It is transcribed to `back`.
 fn gives_back(text: &[u32], row: &[u8], back: &mut [u8]) -> bool {
-    let answer = desk::numbers(transcriber::transcribe(text, back));
-    answer.number == DONE && answer.second == row.len() && back.starts_with(row)
+    transcriber::transcribe(text, back) == Ok(row.len()) && back.starts_with(row)
 }
 
 // ---- steps
@@ -55,7 +42,7 @@ fn places_of(row: &[u8]) -> usize
 }
 
 // What the screen shows at a place: the first step, or one by a reader that was moved there.
-fn shown_there(row: &[u8], place: usize) -> Shown {
+fn shown_there(row: &[u8], place: usize) -> Result<Option<Sign>, Refusal> {
     if place == 0 {
         return screen::first(row);
     }
@@ -63,11 +50,11 @@ fn shown_there(row: &[u8], place: usize) -> Shown {
 }
 
 // Behind the print of a sign, or none where the text goes on otherwise.
-fn behind_sign(text: &[u32], lead: u32, point: u32) -> Option<&[u32]> {
-    if lead == NO_LEAD {
-        return text.strip_prefix(&[point]);
+fn behind_sign(text: &[u32], sign: Sign) -> Option<&[u32]> {
+    match sign.lead {
+        Some(lead) => text.strip_prefix(&[lead, sign.point]),
+        None => text.strip_prefix(&[sign.point]),
     }
-    text.strip_prefix(&[lead, point])
 }
 
 // Where a walk is: the place where the next sign is to start, and what of the text is not shown yet.
@@ -85,11 +72,14 @@ impl<'a> Walk<'a> {
         let shown = shown_there(row, place);
         let after = screen::place_after(shown, place);
         match shown {
-            Shown::Sign { lead, point, next } if is_due && place < next && after == next => {
-                let left = behind_sign(self.left, lead, point)?;
-                Some(Walk { due: next, left })
+            Ok(Some(sign)) if is_due && place < sign.next && after == sign.next => {
+                let left = behind_sign(self.left, sign)?;
+                Some(Walk {
+                    due: sign.next,
+                    left,
+                })
             }
-            Shown::Still if !is_due && after == place => Some(self),
+            Ok(None) if !is_due && after == place => Some(self),
             _ => None,
         }
     }
@@ -114,17 +104,17 @@ fn is_walked(row: &[u8], text: &[u32]) -> bool {
 }
 
 // Is a step at a place refused so? None: is it not refused?
-fn is_refused_at(row: &[u8], place: usize, asked: Option<desk::Shown>) -> bool {
+fn is_refused_at(row: &[u8], place: usize, asked: Option<Refusal>) -> bool {
     let shown = shown_there(row, place);
     let after = screen::place_after(shown, place);
     match shown {
-        Shown::Refused(answer) => asked == Some(desk::read_numbers(answer)) && after == place,
-        _ => asked.is_none(),
+        Err(refusal) => asked == Some(refusal) && after == place,
+        Ok(_) => asked.is_none(),
     }
 }
 
 // Is the step at every place that is asked refused so?
-fn is_refused(row: &[u8], asked: Option<desk::Shown>) -> bool {
+fn is_refused(row: &[u8], asked: Option<Refusal>) -> bool {
     (0..places_of(row)).all(|place| is_refused_at(row, place, asked))
         && is_refused_at(row, FAR_BEHIND, asked)
 }
@@ -143,11 +133,10 @@ fn check_read(rt: &impl Print, row: &[u8], text: &[u32], back: &mut [u8]) -> io:
 }
 
 // A row that was refused: "A row that isn't accepted is refused as reading refuses it, but never with 6".
-fn check_refused(rt: &impl Print, row: &[u8], refusal: desk::Shown) -> io::Result<()> {
-    let asked = if refusal.number == NEEDS_ROOM {
-        None
-    } else {
-        Some(refusal)
+fn check_refused(rt: &impl Print, row: &[u8], refusal: Refusal) -> io::Result<()> {
+    let asked = match refusal {
+        Refusal::NeedsRoom(_) => None,
+        refusal => Some(refusal),
     };
     if !is_refused(row, asked) {
         say::disagrees(rt, "a step is refused otherwise", row)?;
@@ -161,19 +150,18 @@ pub fn tried(
     row: &[u8],
     text: &mut [u32],
     back: &mut [u8],
-) -> io::Result<desk::Shown> {
-    let answer = desk::read_numbers(reader::read(row, text));
-    let Some((text, behind)) = text.split_at_checked(written(answer)) else {
+) -> io::Result<Result<usize, Refusal>> {
+    let answer = reader::read(row, text);
+    let Some((text, behind)) = text.split_at_checked(answer.unwrap_or(0)) else {
         say::disagrees(rt, "a count above what was lent", row)?;
         return Ok(answer);
     };
     if !is_untouched(behind) {
         say::disagrees(rt, "an element behind the text is touched", row)?;
     }
-    if answer.number == DONE {
-        check_read(rt, row, text, back)?;
-    } else {
-        check_refused(rt, row, answer)?;
+    match answer {
+        Ok(_) => check_read(rt, row, text, back)?,
+        Err(refusal) => check_refused(rt, row, refusal)?,
     }
     Ok(answer)
 }
