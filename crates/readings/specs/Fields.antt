@@ -121,9 +121,16 @@ figure_in w = w / figure_at % 64
 abbrev pub lower_in : ℕ → ℕ
 lower_in w = w / lower_at % 64
 
--- what it is between two digits of a number: the full stop or the comma
+-- its small letter, where it is a letter
+abbrev pub letter_in : ℕ → ℕ
+letter_in w = cond (eqb (capital_in w) 0) 0 (point_in w)
+
+-- what it is between two digits of a number, the full stop or the comma; and anywhere inside one, its digit or that
 abbrev pub between_in : ℕ → ℕ
 between_in w = cond (eqb (class_in w) stop || eqb (class_in w) comma) (point_in w) 0
+
+abbrev pub inside_in : ℕ → ℕ
+inside_in w = cond (eqb (figure_in w) 0) (between_in w) (figure_in w)
 
 abbrev pub kind_in : ℕ → ℕ
 kind_in w = w / kind_at % 16

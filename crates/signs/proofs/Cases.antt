@@ -13,14 +13,16 @@ use borrow.Author.Tests.{eq-eqb, ne_eqb, le-leb, lt-leb, leb-true, not-true}
 use Rattle.rules.specs.Cells.{Row, dots, last_cell}
 use Rattle.rules.specs.Pairs.{kinds}
 use Rattle.rules.proofs.Finite.{below, at_below, beq_same, le_or_lt, implies}
+use Rattle.rules.proofs.Machine.{at_rest}
 use Rattle.entries.specs.Chosen.{choose}
+use Rattle.entries.proofs.Keys.{among, Rest, rest_none}
 use Rattle.readings.specs.Modes as mode
 use Rattle.readings.specs.Modes.{mode_of, mode_count, number_of}
 use Rattle.readings.specs.declared.Mode.{Mode}
 use Rattle.readings.specs.declared.Mode.TheVariants as a
 use Rattle.readings.specs.Acts as act
 use Rattle.readings.specs.Deeds.{deeds}
-use Rattle.readings.specs.Fields.{deed_of, class_in, point_in, capital_in, figure_in, lower_in, kind_in, then_in, usual_in, run_point, no_cell, cell_of}
+use Rattle.readings.specs.Fields.{deed_of, class_in, point_in, capital_in, figure_in, lower_in, letter_in, inside_in, kind_in, then_in, usual_in, run_point, no_cell, cell_of}
 use Rattle.readings.specs.Words.{words, letters_alone, signs_alone, word_of}
 use Rattle.readings.specs.Readings.{no_point, shown, a_step, Reading, reads, one, usual_by, once_list, digit_cell, capital_modes, after_capital, capital_by, number_by, percent_by, inner_quotes, two_of, two_list, longer_by, prefix_by, ask_list, asked_by, reading_of, by_word, opener_of, closer_of, mark_step, step_of, step_at}
 use Rattle.readings.specs.Readings as reading
@@ -95,6 +97,21 @@ module _ (r : Row) (n : ℕ) where
       (λ h. get_or-eq_default words 0 {n = get_or r n no_cell} h ∙ ap (λ (b : Bool). word_of (cond b (get_or r n no_cell) no_cell)) (sym (lt-leb (get_or r n no_cell) last_cell h)))
       (le_or_lt (get_or r n no_cell) last_cell)
 
+-- THE MODES AT REST
+abbrev pub owes : List ℕ
+owes = mode.owing ∷ mode.whole1 ∷ mode.low ∷ mode.under1 ∷ mode.mid ∷ []
+
+rests_right : T (below (λ m. among owes m || at_rest (mode_of m)) mode_count)
+unfolding at_rest
+rests_right = tt
+
+pub at_rest_there : (m : ℕ) → m < mode_count → Rest Unit owes m → true ≡ at_rest (mode_of m)
+at_rest_there m l r = go (among owes m) (rest_none Unit owes m r).1 (at_below (λ m. among owes m || at_rest (mode_of m)) mode_count rests_right m l)
+  where
+    go : (b : Bool) → b ≡ false → T (b || at_rest (mode_of m)) → true ≡ at_rest (mode_of m)
+    go true e t = absurd (subst T e tt)
+    go false e t = sym (is_true (at_rest (mode_of m)) t)
+
 -- WHAT A CELL IS AMONG: a byte that is none is among nothing
 module _ (these c : ℕ) where
   pub high_among : last_cell < c → false ≡ cell_among these c
@@ -140,6 +157,16 @@ has_field g z f t c n =
 pub figure_lowered : (c : ℕ) → lower_cell c ≡ true → figure_in (word_of (c / 2)) ≡ lower_in (word_of c)
 unfolding words
 figure_lowered c n = eqb→eq (figure_in (word_of (c / 2))) (lower_in (word_of c)) (has_field lower_in refl (λ c. eqb (figure_in (word_of (c / 2))) (lower_in (word_of c))) tt c n)
+
+pub inside_lowered : (c : ℕ) → lower_cell c ≡ true → inside_in (word_of (c / 2)) ≡ lower_in (word_of c)
+unfolding words
+inside_lowered c n =
+    eqb→eq (inside_in (word_of (c / 2))) (lower_in (word_of c)) (has_field lower_in refl (λ c. eqb (inside_in (word_of (c / 2))) (lower_in (word_of c))) tt c n)
+
+-- the cell of a digit is a letter
+pub digit_letter : (c : ℕ) → digit_cell c ≡ true → letter_in (word_of c) ≡ point_in (word_of c)
+unfolding words
+digit_letter c n = eqb→eq (letter_in (word_of c)) (point_in (word_of c)) (has_field figure_in refl (λ c. eqb (letter_in (word_of c)) (point_in (word_of c))) tt c n)
 
 -- AFTER 46: the mode after a capital, by the mode before it, is what the code's number has, four bits for each
 abbrev packed : List ℕ → ℕ
