@@ -2,7 +2,7 @@
 -- Castilian table under the same name in snake case in proofs/Demands.antt. `Transcribed`, `Read` and `Shows` are the promises of `transcribe`, `read` and `step`; that
 -- the functions keep them, for every input, is what the check proves of the functions. What is demanded of the rules stands in crates/rules/specs/Demands.antt.
 -- Assumes nothing.
-use Rattle.std.specs.Prelude.{List, ◌≡◌, ℕ, ◌≤◌, length, take}
+use Rattle.std.specs.Prelude.{List, ◌≡◌, ℕ, Ok, ◌≤◌, length, take}
 use Rattle.rules.specs.Cells.{Text, Row}
 use Rattle.rules.specs.Sorts.{Table}
 use Rattle.rules.specs.Normal.{normal_of}
@@ -11,11 +11,10 @@ use Rattle.passes.specs.declared.Answer as print
 use Rattle.passes.specs.declared.Answer.TheVariants as prints
 use Rattle.transcriber.specs.Promise.{Transcribed}
 use Rattle.transcriber.specs.Claims as transcriber
-use Rattle.reader.specs.declared.Answer as row
-use Rattle.reader.specs.declared.Answer.TheVariants as rows
+use Rattle.reader.specs.Promise as row
 use Rattle.reader.specs.Promise.{Read}
 use Rattle.reader.specs.Claims as reader
-use Rattle.stepper.specs.declared.Shown as step
+use Rattle.stepper.specs.Promise as step
 use Rattle.stepper.specs.Promise.{Shows}
 use Rattle.stepper.specs.Claims as stepper
 use Rattle.desk.specs.Shows as shown
@@ -52,7 +51,7 @@ abbrev pub RoundTrip : Table → Type 0
 RoundTrip tb =
     (p : Text) (lent : List ℕ) (n : ℕ) (new : List ℕ) → Transcribed tb p lent (prints.Done n) new
     → (room : List ℕ) (a : row.Answer) (after : List ℕ) → Read tb (take n new) room a after → length (normal_of p) ≤ length room
-    → (a ≡ rows.Done (length (normal_of p))) × (take (length (normal_of p)) after ≡ normal_of p)
+    → (a ≡ Ok (length (normal_of p))) × (take (length (normal_of p)) after ≡ normal_of p)
 
 -- "A text is refused exactly when the rules give it no row, when it exceeds a length, or when the row does not fit the room lent."
 abbrev pub RefusedExactly : Table → Type 0

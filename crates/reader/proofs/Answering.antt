@@ -22,8 +22,9 @@ use Rattle.readings.specs.Left.{left}
 use Rattle.readings.proofs.Turning.{end_left}
 use Rattle.reader.specs.Promise.{refusal_of, Read, done, refused}
 use Rattle.reader.specs.Passes.{FirstHigh, RefusesRow, Settled, settled_done, settled_refused}
-use Rattle.reader.specs.declared.Answer.{Answer}
-use Rattle.reader.specs.declared.Answer.TheVariants.{Done, TooLong, NotACell, NoText, NeedsRoom}
+use Rattle.std.specs.Prelude.{Ok, Err}
+use Rattle.reader.specs.declared.Refusal.{Refusal}
+use Rattle.reader.specs.declared.Refusal.TheVariants.{TooLong, NotACell, NoText, NeedsRoom}
 use Rattle.reader.proofs.Whole.{left_text, no_longer, Told}
 
 -- THE ROW'S REFUSALS
@@ -66,65 +67,59 @@ module _ (r : Row) where
       accepted h = record { proper = proper text has; reads = has; short = omega (arith, told.count) }
 
       -- THE ENDS OF `read` that are no refusal of the row
-      pub read_cramped : (lent new : List ℕ) → new ≡ lent → c ≤ longest_text → length lent < c → Read castilian r lent (NeedsRoom c) new
+      pub read_cramped : (lent new : List ℕ) → new ≡ lent → c ≤ longest_text → length lent < c → Read castilian r lent (Err (NeedsRoom c)) new
       read_cramped lent new same h j =
-          subst (Read castilian r lent (NeedsRoom c)) (sym same)
-          (refused (NeedsRoom c) (needs_room c) refl
+          subst (Read castilian r lent (Err (NeedsRoom c))) (sym same)
+          (refused (Err (NeedsRoom c)) (needs_room c) refl
           (subst (λ (n : ℕ). RowAnswer castilian r (length lent) (refuses (needs_room n))) (sym told.count)
           (text_needs_room text (accepted h) (omega (arith, told.count)))))
 
-      pub read_done : (lent new : List ℕ) → new ≡ laid text lent → c ≤ longest_text → c ≤ length lent → Read castilian r lent (Done c) new
+      pub read_done : (lent new : List ℕ) → new ≡ laid text lent → c ≤ longest_text → c ≤ length lent → Read castilian r lent (Ok c) new
       read_done lent new is h j =
-          subst (Read castilian r lent (Done c)) (sym is)
-          (subst (λ (n : ℕ). Read castilian r lent (Done n) (laid text lent)) (sym told.count)
+          subst (Read castilian r lent (Ok c)) (sym is)
+          (subst (λ (n : ℕ). Read castilian r lent (Ok n) (laid text lent)) (sym told.count)
           (done text (rules.read text (accepted h) (omega (arith, told.count)))))
 
       -- the answer that is no refusal of the row, by the room
       module _ (room : ℕ) where
-        pub settle_cramped : c ≤ longest_text → room < c → Settled castilian r room (NeedsRoom c)
+        pub settle_cramped : c ≤ longest_text → room < c → Settled castilian r room (Err (NeedsRoom c))
         settle_cramped h j =
             settled_refused (NeedsRoom c) (needs_room c) refl
             (subst (λ (n : ℕ). RowAnswer castilian r room (refuses (needs_room n))) (sym told.count)
             (text_needs_room text (accepted h) (omega (arith, told.count))))
 
-        pub settle_done : c ≤ longest_text → c ≤ room → Settled castilian r room (Done c)
+        pub settle_done : c ≤ longest_text → c ≤ room → Settled castilian r room (Ok c)
         settle_done h j =
-            subst (λ (n : ℕ). Settled castilian r room (Done n)) (sym told.count)
+            subst (λ (n : ℕ). Settled castilian r room (Ok n)) (sym told.count)
             (settled_done text (rules.read text (accepted h) (omega (arith, told.count))))
 
   -- a refusal of the row is one whatever the room
-  pub settle_refused : (a : Answer) → RefusesRow castilian r a → (room : ℕ) → Settled castilian r room a
+  pub settle_refused : (a : Refusal) → RefusesRow castilian r a → (room : ℕ) → Settled castilian r room (Err a)
   settle_refused a h room = settled_refused a h.0 h.1 (rules.row_refused h.0 h.2)
 
-  -- THE ENDS OF `read`: nothing is written. (`let .. else` tells of the answer that its variant is none but the first.)
-  pub read_undone : (a : Answer) (lent new : List ℕ) → Settled castilian r (length lent) a → ((n : ℕ) → a ≡ Done n → ⊥) → new ≡ lent
-      → Read castilian r lent a new
-  read_undone a lent new (settled_done t answer) other same =
-      absurd (other _ refl)
-  read_undone a lent new (settled_refused b x e answer) other same = subst (Read castilian r lent b) (sym same) (refused b x e answer)
+  -- THE ENDS OF `read`: nothing is written
+  pub read_undone : (a : Refusal) (lent : List ℕ) → Settled castilian r (length lent) (Err a) → Read castilian r lent (Err a) lent
+  read_undone a lent (settled_refused b x e answer) = refused (Err b) x e answer
 
-  pub read_refused : (a : Answer) → RefusesRow castilian r a → (lent new : List ℕ) → new ≡ lent → Read castilian r lent a new
-  read_refused a h lent new same =
-      subst (Read castilian r lent a) (sym same) (refused a h.0 h.1 (rules.row_refused h.0 h.2))
+  pub read_refused : (a : Refusal) → RefusesRow castilian r a → (lent : List ℕ) → Read castilian r lent (Err a) lent
+  read_refused a h lent = refused (Err a) h.0 h.1 (rules.row_refused h.0 h.2)
 
   -- or the text that has the row
-  pub settled_text : {a : Answer} {n room : ℕ} → Settled castilian r room a → a ≡ Done n
-      → (t : Text) × (n ≡ length t) × ReadsAs castilian r t × (length t ≤ room)
-  settled_text {n = n} (settled_done t (rules.read x h room)) e = let z : length t ≡ n = cc in (t, sym z, h, room)
-  settled_text (settled_refused a x f answer) e = nothing (sym (ap refusal_of e) ∙ f)
+  pub settled_text : {n room : ℕ} → Settled castilian r room (Ok n) → (t : Text) × (n ≡ length t) × ReadsAs castilian r t × (length t ≤ room)
+  settled_text (settled_done t (rules.read x h room)) = (t, refl, h, room)
 
   pub read_text : {n : ℕ} (t : Text) → n ≡ length t → ReadsAs castilian r t → (lent new : List ℕ) → new ≡ laid t lent → length t ≤ length lent
-      → Read castilian r lent (Done n) new
+      → Read castilian r lent (Ok n) new
   read_text t e h lent new is room =
-      subst (Read castilian r lent (Done _)) (sym is)
-      (subst (λ (n : ℕ). Read castilian r lent (Done n) (laid t lent)) (sym e) (done t (rules.read t h room)))
+      subst (Read castilian r lent (Ok _)) (sym is)
+      (subst (λ (n : ℕ). Read castilian r lent (Ok n) (laid t lent)) (sym e) (done t (rules.read t h room)))
 
 -- AN EMPTY ROW has the empty text
 nothing_told : Told (left 0 0 []) 0
 unfolding at_rest
 nothing_told = record { signs = []; are = end_left [] 0 0 0 zero-le (omega arith); count = refl }
 
-pub read_empty : (r : Row) → length r ≡ 0 → (lent : List ℕ) → Read castilian r lent (Done 0) lent
+pub read_empty : (r : Row) → length r ≡ 0 → (lent : List ℕ) → Read castilian r lent (Ok 0) lent
 unfolding nothing_told
 read_empty [] e lent = read_text [] [] refl (accepted [] (omega arith) nothing_told (omega arith)) lent lent refl zero-le
 read_empty (c ∷ r) e lent = absurd (omega arith)

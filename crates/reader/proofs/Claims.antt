@@ -20,30 +20,30 @@ use Rattle.rules.proofs.Answers as answers
 use Rattle.rows.specs.Laid.{laid}
 use Rattle.rows.proofs.Laid.{length_laid, front}
 use Rattle.reader.proofs.Whole.{no_longer}
-use Rattle.reader.specs.declared.Answer.{Answer}
-use Rattle.reader.specs.declared.Answer.TheVariants.{Done, TooLong, NotACell, NoText, NeedsRoom}
-use Rattle.reader.specs.Promise.{refusal_of, Read, done, refused}
+use Rattle.std.specs.Prelude.{Ok, Err}
+use Rattle.reader.specs.declared.Refusal.TheVariants.{TooLong, NotACell, NoText, NeedsRoom}
+use Rattle.reader.specs.Promise.{Answer, refusal_of, Read, done, refused}
 use Rattle.reader.specs.Passes.{FirstHigh}
 use Rattle.reader.specs.Claims.{OneOutcome, CountIsLength, RestAsItWas, RefusalWritesNothing, ReturnsTheText, NoTextExactly, RowIsRoom, OneFirstHigh}
 
 -- an answer is known by its refusal
 back : Refusal → Answer
-back (too_long n) = TooLong n
-back (at_fault c n) = Done n
-back (needs_room n) = NeedsRoom n
-back (not_a_cell n) = NotACell n
-back no_text = NoText
+back (too_long n) = Err (TooLong n)
+back (at_fault c n) = Ok n
+back (needs_room n) = Err (NeedsRoom n)
+back (not_a_cell n) = Err (NotACell n)
+back no_text = Err NoText
 
 pub some_same : {A : Type 0} {x y : A} → some x ≡ some y → x ≡ y
 some_same e = cc
 
 known : (a : Answer) (x : Refusal) → refusal_of a ≡ some x → a ≡ back x
 unfolding back
-known (Done n) x e = nothing e
-known (TooLong n) x e = ap back (some_same e)
-known (NotACell n) x e = ap back (some_same e)
-known NoText x e = ap back (some_same e)
-known (NeedsRoom n) x e = ap back (some_same e)
+known (Ok n) x e = nothing e
+known (Err (TooLong n)) x e = ap back (some_same e)
+known (Err (NotACell n)) x e = ap back (some_same e)
+known (Err NoText) x e = ap back (some_same e)
+known (Err (NeedsRoom n)) x e = ap back (some_same e)
 
 pub known_two : (a b : Answer) (x y : Refusal) → refusal_of a ≡ some x → refusal_of b ≡ some y → x ≡ y → a ≡ b
 known_two a b x y p q e = known a x p ∙ ap back e ∙ sym (known b y q)
@@ -64,7 +64,7 @@ never_room r x n (refused_not_a_cell m l k u f) e = let z : ◌≡◌ {A = ℕ} 
 never_room r x n (refused_no_text p h) e = let z : ◌≡◌ {A = ℕ} 0 1 = cc in omega arith
 never_room r x n (long_text t p h l) e = let z : ◌≡◌ {A = ℕ} 0 1 = cc in omega arith
 
-done_same : (m n : ℕ) → Done m ≡ Done n → m ≡ n
+done_same : (m n : ℕ) → ◌≡◌ {A = Answer} (Ok m) (Ok n) → m ≡ n
 done_same m n e = cc
 
 -- behind what was laid all is as it was
@@ -80,12 +80,12 @@ module _ (tb : Table) where
   abbrev Given : Row → List ℕ → ℕ → List ℕ → Type 0
   Given r lent n new = (t : Text) × RowAnswer tb r (length lent) (gives t) × (n ≡ length t) × (new ≡ laid t lent)
 
-  given_by : (r : Row) (lent : List ℕ) (a : Answer) (new : List ℕ) → Read tb r lent a new → (n : ℕ) → a ≡ Done n → Given r lent n new
+  given_by : (r : Row) (lent : List ℕ) (a : Answer) (new : List ℕ) → Read tb r lent a new → (n : ℕ) → a ≡ Ok n → Given r lent n new
   given_by r lent a new (done t g) n e = (t, g, sym (done_same (length t) n e), refl)
   given_by r lent a new (refused c x q h) n e = nothing (sym (ap refusal_of e) ∙ q)
 
-  given_text : (r : Row) (lent : List ℕ) (n : ℕ) (new : List ℕ) → Read tb r lent (Done n) new → Given r lent n new
-  given_text r lent n new h = given_by r lent (Done n) new h n refl
+  given_text : (r : Row) (lent : List ℕ) (n : ℕ) (new : List ℕ) → Read tb r lent (Ok n) new → Given r lent n new
+  given_text r lent n new h = given_by r lent (Ok n) new h n refl
 
   reads_of : (r : Row) (room : ℕ) (t : Text) → RowAnswer tb r room (gives t) → ReadsAs tb r t × (length t ≤ room)
   reads_of r room t (rules.read u h l) = (h, l)
@@ -110,7 +110,7 @@ module _ (tb : Table) where
     pub one_outcome_in : OneOutcome tb
     one_outcome_in r lent a b new old (done t g) (done u h) =
         let e : t ≡ u = gives_same t u (one r lent (gives t) (gives u) g h) in
-        (ap (λ (x : Text). Done (length x)) e, ap (λ (x : Text). laid x lent) e)
+        (ap (λ (x : Text). Ok (length x)) e, ap (λ (x : Text). laid x lent) e)
     one_outcome_in r lent a b new old (done t g) (refused c x q h) = gives_not_refuses (one r lent (gives t) (refuses x) g h)
     one_outcome_in r lent a b new old (refused c x q h) (done t g) = gives_not_refuses (one r lent (gives t) (refuses x) g h)
     one_outcome_in r lent a b new old (refused c x q h) (refused d y w k) =
@@ -119,22 +119,22 @@ module _ (tb : Table) where
     pub returns_the_text_in : ReturnsTheText tb
     returns_the_text_in r lent a new (done u g) t h l =
         let e : u ≡ t = gives_same u t (one r lent (gives u) (gives t) g (rules.read t h l)) in
-        (ap (λ (x : Text). Done (length x)) e, front t lent (laid u lent) (length t) refl (ap (λ (x : Text). laid x lent) e))
+        (ap (λ (x : Text). Ok (length x)) e, front t lent (laid u lent) (length t) refl (ap (λ (x : Text). laid x lent) e))
     returns_the_text_in r lent a new (refused c x q k) t h l = gives_not_refuses (one r lent (gives t) (refuses x) (rules.read t h l) k)
 
     pub no_text_exactly_in : NoTextExactly tb
     no_text_exactly_in r lent a new p = (there a new p, back_again a new p)
       where
-        there : (a : Answer) (new : List ℕ) → Read tb r lent a new → a ≡ NoText → ProperRow r × ((t : Text) → Reads tb r t → ⊥)
+        there : (a : Answer) (new : List ℕ) → Read tb r lent a new → a ≡ Err NoText → ProperRow r × ((t : Text) → Reads tb r t → ⊥)
         there a new (done t g) e = let z : ◌≡◌ {A = ℕ} 0 1 = cc in absurd (omega arith)
         there a new (refused c x q h) e =
             let z : x ≡ no_text = some_same (sym q ∙ ap refusal_of e) in
             (answers.no_text_exactly tb held r (length lent)).0 (subst (λ (y : Refusal). RowAnswer tb r (length lent) (refuses y)) z h)
 
-        back_again : (a : Answer) (new : List ℕ) → Read tb r lent a new → ProperRow r × ((t : Text) → Reads tb r t → ⊥) → a ≡ NoText
+        back_again : (a : Answer) (new : List ℕ) → Read tb r lent a new → ProperRow r × ((t : Text) → Reads tb r t → ⊥) → a ≡ Err NoText
         back_again a new (done t g) f = gives_not_refuses (one r lent (gives t) (refuses no_text) g ((answers.no_text_exactly tb held r (length lent)).1 f))
         back_again a new (refused c x q h) f =
-            known_two c NoText x no_text q refl
+            known_two c (Err NoText) x no_text q refl
             (refuses_same x no_text (one r lent (refuses x) (refuses no_text) h ((answers.no_text_exactly tb held r (length lent)).1 f)))
 
 -- of the Castilian table
@@ -158,7 +158,7 @@ no_text_exactly = no_text_exactly_in castilian sane
 
 -- what is needed is the length of a text that has the row
 pub row_is_room : RowIsRoom castilian
-row_is_room r lent n new p = go (NeedsRoom n) new p refl
+row_is_room r lent n new p = go (Err (NeedsRoom n)) new p refl
   where
     same : (m k : ℕ) → needs_room m ≡ needs_room k → m ≡ k
     same m k e = cc
@@ -170,7 +170,7 @@ row_is_room r lent n new p = go (NeedsRoom n) new p refl
         (omega (arith, l, k), omega (arith, no_longer r t h.reads, k))
     by x y (rules.read t h l) e f = gives_not_refuses e
 
-    go : (a : Answer) (new : List ℕ) → Read castilian r lent a new → a ≡ NeedsRoom n → (length lent < n) × (n ≤ length r)
+    go : (a : Answer) (new : List ℕ) → Read castilian r lent a new → a ≡ Err (NeedsRoom n) → (length lent < n) × (n ≤ length r)
     go a new (done t g) e = let z : ◌≡◌ {A = ℕ} 0 1 = cc in absurd (omega arith)
     go a new (refused c x q h) e = by x (refuses x) h refl (some_same (sym q ∙ ap refusal_of e))
 

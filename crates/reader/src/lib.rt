@@ -10,11 +10,10 @@ ghost use Rattle.rules.specs.Castilian.{castilian};
 ghost use Rattle.rules.specs.Rows.{Reads};
 ghost use Rattle.rules.specs.Refusals.{longest_row, longest_text, reported};
 ghost use Rattle.rules.proofs.Machine.{at_rest};
-ghost use Rattle.rows.specs.Laid.{laid};
 ghost use Rattle.readings.specs.Modes.{mode_of, number_of};
 ghost use Rattle.walks.specs.Walks.{CellsFrom, AllCells, Goes};
 ghost use Rattle.reader.specs.Promise.{Read};
-ghost use Rattle.reader.specs.Passes.{FirstHigh, RefusesRow, Found, Settled, word_row, line_row};
+ghost use Rattle.reader.specs.Passes.{FirstHigh, RefusesRow, Found, Settled, at_start, line_row};
 
 use readings::{Mode, NO_POINT, point_of};
 use signs::LAST_CELL;
@@ -104,17 +103,22 @@ pub fn unread(row: &[u8], from: usize) -> Refusal
     }
 }
 
-// Walks a whole row. That a longer one is of cells was asked before.
+// Walks a whole row. Where the draft is a longer one, it was asked before that the row is of cells.
 fn walk_whole(row: &[u8], draft: &mut [u32]) -> Result<Stand, NoText>
+    requires { (length row.now ≤ longest_row) × (length draft.old ≤ longest_row) × (line_row < length draft.old → AllCells row.now) }
+    ensures { Goes row.now (length row.now) at_start draft.old draft.new result }
 {
-    if LINE_ROW < row.len() {
-        return walk_row(row, draft);
+    if draft.len() <= LINE_ROW {
+        walk(row, Stand::at_start(), row.len(), draft)
+    } else {
+        walk_row(row, draft)
     }
-    walk(row, Stand::at_start(), row.len(), draft)
 }
 
 // The count of code points that are to be written, or the refusal, by what a walk over the whole row found and by the room that is lent.
 fn settle(row: &[u8], found: Result<Stand, NoText>, room: usize) -> Result<usize, Refusal>
+    requires { (length row.now ≤ longest_row) × Found row.now found }
+    ensures { Settled castilian row.now room result }
 {
     let end = match found {
         Ok(end) => end,
@@ -133,27 +137,16 @@ fn settle(row: &[u8], found: Result<Stand, NoText>, room: usize) -> Result<usize
 }
 
 // Reads a row by way of a draft, which has room for any text of the row, or for the longest that is accepted. The walk is lent nothing that the caller
-// lent, so a refusal leaves that as it was. (One walk and a copy are faster than two walks, the first without room. A draft is cleared before it is used, so that a short row has a short one.)
+// lent, so a refusal leaves that as it was. (One walk and a copy are faster than two walks, the first without room. A draft is cleared before it is used, so a
+// short row has a short one.)
 fn read_by<const ROOM: usize>(row: &[u8], text: &mut [u32]) -> Result<usize, Refusal>
+    requires { (length row.now ≤ longest_row) × (ROOM ≤ longest_row) × (line_row < ROOM → AllCells row.now) × ((length row.now ≤ ROOM) ⊎ (longest_text ≤ ROOM)) }
+    ensures { Read castilian row.now text.old result text.new }
 {
     let mut draft = [NO_POINT; ROOM];
     let found = walk_whole(row, &mut draft);
     let count = settle(row, found, text.len())?;
     text[..count].copy_from_slice(&draft[..count]);
-    Ok(count)
-}
-
-fn read_word(row: &[u8], text: &mut [u32]) -> Result<usize, Refusal>
-{
-    let mut draft = [NO_POINT; WORD_ROW];
-    let found = walk(row, Stand::at_start(), row.len(), &mut draft);
-    let count = settle(row, found, text.len())?;
-    for place in 0..WORD_ROW {
-        if place == count {
-            break;
-        }
-        text[place] = draft[place];
-    }
     Ok(count)
 }
 
@@ -187,7 +180,7 @@ pub fn read(row: &[u8], text: &mut [u32]) -> Result<usize, Refusal>
         if row.len() == 1 {
             return read_cell(row, text);
         }
-        return read_word(row, text);
+        return read_by::<WORD_ROW>(row, text);
     }
     if LONGEST_ROW < row.len() {
         return Err(Refusal::TooLong(reported_length(row.len())));

@@ -11,15 +11,16 @@ use Rattle.rules.specs.Screen.{sign_at, shown_by, shows, Stepped, stepped, staye
 use Rattle.rules.specs.Castilian.{castilian}
 use Rattle.readings.specs.Left.{left}
 use Rattle.readings.specs.Print.{points}
-use Rattle.reader.specs.declared.Answer.{Answer}
+use Rattle.std.specs.Prelude.{Some, None, Ok, Err}
+use Rattle.reader.specs.declared.Refusal.{Refusal}
 use Rattle.reader.specs.Passes.{RefusesRow}
 use Rattle.reader.proofs.Whole.{left_text, Told}
 use Rattle.reader.proofs.Answering.{accepted}
-use Rattle.stepper.specs.declared.Shown.TheVariants as shown
+use Rattle.stepper.specs.declared.Sign as stepper
 use Rattle.stepper.specs.Promise.{Shows, sign_there, no_sign_there, row_refused}
 
 module _ (r : Row) where
-  pub step_refused : (a : Answer) → RefusesRow castilian r a → (place : ℕ) → Shows castilian r place (shown.Refused a)
+  pub step_refused : (a : Refusal) → RefusesRow castilian r a → (place : ℕ) → Shows castilian r place (Err a)
   step_refused a h place = row_refused a h.0 h.1 (stayed h.0 h.2)
 
   -- A ROW THAT IS READ: what walks told of it
@@ -29,12 +30,12 @@ module _ (r : Row) where
         subst (λ (y : Option Sign). Stepped castilian r place (shows (shown_by y place)))
         (ap (λ (ss : List Sign). sign_at ss place) (left_text r told.signs told.are).1 ∙ e) (stepped (print_of told.signs) (accepted r short told h))
 
-    pub step_still : (place : ℕ) → c ≤ longest_text → sign_at told.signs place ≡ none → Shows castilian r place shown.Still
+    pub step_still : (place : ℕ) → c ≤ longest_text → sign_at told.signs place ≡ none → Shows castilian r place (Ok None)
     step_still place h e = no_sign_there (at_place place h none e)
 
-    pub step_sign : (place : ℕ) → c ≤ longest_text → (g : Sign) → sign_at told.signs place ≡ some g → (l p k : ℕ) → g.shown ≡ points l p
-        → k ≡ place + length g.taken → Shows castilian r place (shown.Sign l p k)
-    step_sign place h g e l p k print next =
-        sign_there l p k
-        (subst (λ (n : ℕ). Stepped castilian r place (shows (record { points = points l p; next = n }))) (sym next)
+    pub step_sign : (place : ℕ) → c ≤ longest_text → (g : Sign) → sign_at told.signs place ≡ some g → (s : stepper.Sign) → g.shown ≡ points s.lead s.point
+        → s.next ≡ place + length g.taken → Shows castilian r place (Ok (Some s))
+    step_sign place h g e s print next =
+        sign_there s
+        (subst (λ (n : ℕ). Stepped castilian r place (shows (record { points = points s.lead s.point; next = n }))) (sym next)
         (subst (λ (u : Text). Stepped castilian r place (shows (record { points = u; next = place + length g.taken }))) print (at_place place h (some g) e)))

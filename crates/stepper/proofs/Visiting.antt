@@ -26,7 +26,9 @@ use Rattle.readings.specs.Print.{points}
 use Rattle.stepper.specs.Promise.{Shows, sign_there, no_sign_there}
 use Rattle.stepper.specs.Claims.{StillExactly, Visits, print_by, WalkShowsText}
 use Rattle.walks.specs.Walks.{CodedSign}
-use Rattle.stepper.specs.declared.Shown.TheVariants.{Still}
+use Rattle.std.specs.Prelude.{Some, None, Ok}
+use Rattle.readings.specs.Readings.{shown}
+use Rattle.stepper.specs.declared.Sign as stepper
 use Rattle.readings.proofs.Print.{points_width}
 
 pub shows_same : (x y : screen.Shown) → shows x ≡ shows y → x ≡ y
@@ -38,9 +40,9 @@ Coded [] = Unit {0}
 Coded (s ∷ ss) = CodedSign s × Coded ss
 
 coded_piece : (s : Piece) → CodedSign (sign_of s)
-coded_piece s = (lead_of s.0, s.1.0, go (eqb (lead_of s.0) 0))
+coded_piece s = (shown (lead_of s.0), s.1.0, go (eqb (lead_of s.0) 0))
   where
-    go : (b : Bool) → cond b [] (lead_of s.0 ∷ []) ++ s.1.0 ∷ [] ≡ cond b (s.1.0 ∷ []) (lead_of s.0 ∷ s.1.0 ∷ [])
+    go : (b : Bool) → cond b [] (lead_of s.0 ∷ []) ++ s.1.0 ∷ [] ≡ points (cond b None (Some (lead_of s.0))) s.1.0
     go true = refl
     go false = refl
 
@@ -70,16 +72,14 @@ module _ (tb : Table) (held : Sane tb) where
   module _ (r : Row) where
     -- a walk of the rules is one of public steps
     visits : (n : ℕ) (ss : List Sign) → Coded ss → Walks tb r n (map (λ (s : Sign). s.shown) ss)
-        → (steps : List (ℕ × ℕ × ℕ)) × Visits tb r n steps × (print_by steps ≡ joined (map (λ (s : Sign). s.shown) ss)) × (length steps ≡ length ss)
+        → (steps : List stepper.Sign) × Visits tb r n steps × (print_by steps ≡ joined (map (λ (s : Sign). s.shown) ss)) × (length steps ≡ length ss)
     visits n [] h w = ([], w, refl, refl)
     visits n (s ∷ ss) h w =
-        let l : ℕ = h.0.0 in
-        let p : ℕ = h.0.1 in
-        let q : s.shown ≡ points l p = h.0.2 in
-        let m : ℕ = w.0 in
-        let v = visits m ss h.1 w.3 in (
-          (l, p, m) ∷ v.0,
-          (sign_there l p m (subst (λ (u : Text). Stepped tb r n (shows (record { points = u; next = m }))) q w.1), w.2, v.1),
+        let c : stepper.Sign = record { lead = h.0.0; point = h.0.1; next = w.0 } in
+        let q : s.shown ≡ points c.lead c.point = h.0.2 in
+        let v = visits c.next ss h.1 w.3 in (
+          c ∷ v.0,
+          (sign_there c (subst (λ (u : Text). Stepped tb r n (shows (record { points = u; next = c.next }))) q w.1), w.2, v.1),
           ap (λ (u : Text). u ++ print_by v.0) (sym q) ∙ ap (λ (u : Text). s.shown ++ u) v.2,
           ap suc v.3,
         )
@@ -102,7 +102,7 @@ module _ (tb : Table) (held : Sane tb) where
   pub still_exactly_in : StillExactly tb
   still_exactly_in r n = (there, λ m. no_sign_there (subst (λ (x : Option Sign). Stepped tb r n (shows (shown_by x n))) m.2 (stepped m.0 m.1)))
     where
-      there : Shows tb r n Still → Means r n
+      there : Shows tb r n (Ok None) → Means r n
       there (no_sign_there h) = still_means r n (shows (record { points = []; next = n })) h refl
 
   pub walk_shows_text_in : WalkShowsText tb

@@ -3,13 +3,8 @@ use Rattle.reader.proofs.Answering.{row_not_cells, row_proper, row_no_text}
 use Rattle.reader.proofs.unread.Goals as goal
 
 pub returns-then-high-row : goal.returns-then-high-row
-returns-then-high-row c =
-    let f = c.before.before in
-    let s = f.before.before in
-    row_not_cells s.args.row.now s.requires.0 f.first_high-high.result f.first_high-high.ensures c.before.if-high-row.true
+returns-then-high-row c = row_not_cells c.args.row.now c.requires.0 c.first_high-high.result c.first_high-high.ensures c.if-high-row.true
 
-pub returns : goal.returns
-returns c =
-    let f = c.before.before in
-    let s = f.before.before in
-    row_no_text s.args.row.now (row_proper s.args.row.now s.requires.0 f.first_high-high.result f.first_high-high.ensures c.before.if-high-row.false) s.requires.3
+pub returns-else-high-row : goal.returns-else-high-row
+returns-else-high-row c =
+    row_no_text c.args.row.now (row_proper c.args.row.now c.requires.0 c.first_high-high.result c.first_high-high.ensures c.if-high-row.false) c.requires.3
