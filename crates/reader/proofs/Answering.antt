@@ -2,9 +2,10 @@
 -- Assumes nothing.
 use mathlib.Core.Path.{◌≡◌, refl, sym, ap, ◌∙◌, subst}
 use mathlib.Core.List.{List, [], ◌∷◌}
+use mathlib.Core.Option.{none}
 use Prim.Native.Nat.{ℕ, ◌≤◌, ◌<◌, zero-le}
 use native.Mathlib.Omega.{arith}
-use native.Mathlib.Nat.{min-eq_left}
+use native.Mathlib.Nat.{min-eq_left, not-suc-le-zero}
 use lib.ListN.{length}
 use Rattle.rules.specs.Cells.{Text, Row}
 use Rattle.rules.specs.Signs.{print_of}
@@ -25,7 +26,8 @@ use Rattle.reader.specs.Passes.{FirstHigh, RefusesRow, Settled, settled_done, se
 use Rattle.std.specs.Prelude.{Ok, Err}
 use Rattle.reader.specs.declared.Refusal.{Refusal}
 use Rattle.reader.specs.declared.Refusal.TheVariants.{TooLong, NotACell, NoText, NeedsRoom}
-use Rattle.reader.proofs.Whole.{left_text, no_longer, Told}
+use Rattle.walks.specs.Walks.{CellsFrom}
+use Rattle.reader.proofs.Whole.{left_text, left_none, no_longer, Told}
 
 -- THE ROW'S REFUSALS
 module _ (r : Row) where
@@ -34,6 +36,11 @@ module _ (r : Row) where
 
   pub row_no_text : ProperRow r → ((t : Text) → Reads castilian r t → ⊥) → RefusesRow castilian r NoText
   row_no_text proper none_reads = (no_text, refl, refused_no_text proper none_reads)
+
+  -- what `unread` is asked for, from the row's front
+  pub unread_from_front : length r ≤ longest_row → left 0 0 r ≡ none
+      → (length r ≤ longest_row) × (0 ≤ length r) × CellsFrom r 0 0 × ((t : Text) → Reads castilian r t → ⊥)
+  unread_from_front short e = (short, zero-le, λ i h l. absurd (not-suc-le-zero l), left_none r e)
 
   module _ (short : length r ≤ longest_row) where
     pub row_not_cells : (n : ℕ) → FirstHigh r n → n < length r → RefusesRow castilian r (NotACell n)

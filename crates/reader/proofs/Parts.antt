@@ -49,6 +49,10 @@ pub goes_same : {row : Row} {stop : ℕ} {v : Stand} {t t' : List ℕ} {x : Resu
 goes_same (goes_on ss w leads reached count wrote) = wrote.0
 goes_same (goes_nowhere k within cells e same) = same
 
+-- from the row's front
+pub from_start : {row : Row} {stop : ℕ} {v : Stand} {t t' : List ℕ} {f : Result Stand NoText} → v ≡ at_start → Goes row stop v t t' f → Goes row stop at_start t t' f
+from_start {row} {stop} {v} {t} {t'} {f} e g = subst (λ (x : Stand). Goes row stop x t t' f) e g
+
 -- and where it comes nowhere: nothing is left, and up to where the bytes are cells
 pub record Lost (row : Row) (v : Stand) (k : ℕ) : Type 0 where
   pub none_left : left (number_of v.mode) v.opened (drop v.at row) ≡ none

@@ -21,7 +21,7 @@ use Rattle.readings.specs.Print.{points}
 use Rattle.readings.proofs.Print.{points_width, points_inj}
 use Rattle.std.specs.Prelude.{Some, Ok, Err}
 use Rattle.std.specs.declared.option.Option as rust
-use Rattle.reader.specs.declared.Refusal.{Refusal} as reader
+use Rattle.reader.specs.declared.Refusal as reader
 use Rattle.reader.specs.declared.Refusal.TheVariants.{NeedsRoom}
 use Rattle.reader.specs.Promise.{Answer, done, refused}
 use Rattle.reader.proofs.Claims.{some_same, known_two, refuses_same, gives_not_refuses, never_room}

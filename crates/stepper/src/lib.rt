@@ -34,6 +34,7 @@ fn stop_behind(at: usize, place: usize, end: usize) -> usize
 }
 
 // A row of one cell: one sign, or none.
+#[tactic(auto, using(crate::proofs::Answering::step_refused))]
 fn step_cell(row: &[u8], place: usize) -> Result<Option<Sign>, Refusal>
     requires { length row.now ≡ 1 }
     ensures { Shows castilian row.now place result }
@@ -52,6 +53,7 @@ fn step_cell(row: &[u8], place: usize) -> Result<Option<Sign>, Refusal>
 }
 
 // Any row, walked once: up to the place, over the sign there, and to the end. What is read before and behind the sign is only counted: there is no room for it.
+#[tactic(auto, using(crate::proofs::Answering::step_refused))]
 fn step_row(row: &[u8], place: usize) -> Result<Option<Sign>, Refusal>
     ensures { Shows castilian row.now place result }
 {

@@ -1,23 +1,22 @@
 -- `read_cell`: the look-up says what the cell is alone, and so whether the row has a text (`one_none`, `one_alone`). Assumes nothing.
 use mathlib.Core.Path.{◌≡◌, refl, sym, ap, ◌∙◌, subst}
 use mathlib.Core.List.{List, [], ◌∷◌}
-use Prim.Native.Nat.{ℕ, ◌<◌, zero-le}
+use Prim.Native.Nat.{ℕ, ◌<◌}
 use native.Mathlib.Omega.{arith}
-use native.Mathlib.Nat.{not-suc-le-zero}
 use lib.ListN.{length, set}
 use Rattle.rules.specs.Cells.{Text}
 use Rattle.rules.specs.Signs.{print_of}
 use Rattle.rows.specs.Laid.{laid}
 use Rattle.readings.specs.Readings.{shown}
-use Rattle.reader.proofs.Whole.{left_none}
 use Rattle.reader.proofs.OneCell.{one_none, one_alone, lone_print, lone_told}
-use Rattle.reader.proofs.Answering.{accepted, settle_cramped, read_undone, read_refused, read_text}
+use Rattle.reader.proofs.Answering.{unread_from_front, accepted, settle_cramped, read_undone, read_refused, read_text}
 use Rattle.reader.proofs.read_cell.Goals as goal
 
 -- the cell is nothing alone
 pub unread-requires : goal.unread-requires
 unread-requires c =
-    (omega (arith, c.requires), zero-le, λ i h l. absurd (not-suc-le-zero l), left_none c.args.row.now (one_none c.args.row.now c.requires (sym (c.shown.ensures ∙ ap (λ (n : ℕ). shown n) c.point_of.ensures) ∙ c.in_default.is)))
+    unread_from_front c.args.row.now (omega (arith, c.requires))
+    (one_none c.args.row.now c.requires (sym (c.shown.ensures ∙ ap (λ (n : ℕ). shown n) c.point_of.ensures) ∙ c.in_default.is))
 
 pub returns-in_default : goal.returns-in_default
 returns-in_default c = read_refused c.args.row.now _ c.unread.ensures c.args.text.now
