@@ -10,7 +10,8 @@ use Rattle.rules.specs.Castilian.{castilian}
 use Rattle.rules.specs.Screen.{StepAnswer, Stepped}
 use Rattle.rules.proofs.Castilian.{sane}
 use Rattle.rules.proofs.Answers as answers
-use Rattle.stepper.specs.declared.Shown.TheVariants.{Sign}
+use Rattle.std.specs.Prelude.{Some, Ok}
+use Rattle.stepper.specs.declared.Sign.{Sign}
 use Rattle.stepper.specs.Promise.{sign_there, no_sign_there, row_refused}
 use Rattle.stepper.specs.Claims.{Visits}
 use Rattle.stepper.proofs.Claims.{one_shown, walk_shows_text}
@@ -31,16 +32,16 @@ places_same : (r : Row) (n : ℕ) (a b : StepAnswer) → Stepped castilian r n a
 places_same r n a b g h = ap (λ (x : StepAnswer). place_in x n) (answers.one_step_answer castilian sane r n a b g h)
 
 pub place_by_the_rules : PlaceByTheRules
-place_by_the_rules r n s (sign_there l p k g) a h = places_same r n _ a g h
+place_by_the_rules r n s (sign_there c g) a h = places_same r n _ a g h
 place_by_the_rules r n s (no_sign_there g) a h = places_same r n _ a g h
 place_by_the_rules r n s (row_refused c x q g) a h = places_same r n _ a g h
 
 -- the steps of a row from a place on, of a reader that stands there
-in_turn : (row : Bor (List ℕ)) (n : ℕ) (steps : List (ℕ × ℕ × ℕ)) → Visits castilian row.now n steps
+in_turn : (row : Bor (List ℕ)) (n : ℕ) (steps : List Sign) → Visits castilian row.now n steps
     → (q : Reader) → Stands q row n → ShowsInTurn q steps
 in_turn row n [] v q h = h.1 ∙ v ∙ ap (λ (x : Bor (List ℕ)). length x.now) (sym h.0)
 in_turn row n (s ∷ rest) v q h =
-    (shown_by_reader q row n h (Sign s.0 s.1 s.2) v.0, λ p g. in_turn row s.2 rest v.2 p (g.0 ∙ h.0, g.1))
+    (shown_by_reader q row n h (Ok (Some s)) v.0, λ p g. in_turn row s.next rest v.2 p (g.0 ∙ h.0, g.1))
 
 pub steps_show_text : StepsShowText
 steps_show_text q row t h reads =

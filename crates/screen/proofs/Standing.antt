@@ -4,8 +4,7 @@ use mathlib.Core.Path.{◌≡◌, sym, ap, subst}
 use Prim.Native.Nat.{ℕ}
 use denote.Ref.{Bor}
 use Rattle.rules.specs.Castilian.{castilian}
-use Rattle.stepper.specs.declared.Shown.{Shown}
-use Rattle.stepper.specs.Promise.{Shows}
+use Rattle.stepper.specs.Promise.{Shown, Shows}
 use Rattle.screen.specs.declared.Reader.{Reader}
 use Rattle.screen.specs.Claims.{Stands}
 

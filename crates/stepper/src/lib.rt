@@ -62,11 +62,21 @@ fn step_row(row: &[u8], place: usize) -> Result<Option<Sign>, Refusal>
     }
     let mut no_room = [NO_POINT; 0];
     let mut print = [NO_POINT; 2];
-    let Ok(before) = walk(row, Stand::at_start(), stop_before(place, row.len()), &mut no_room) else {
+    let Ok(before) = walk(
+        row,
+        Stand::at_start(),
+        stop_before(place, row.len()),
+        &mut no_room,
+    ) else {
         return Err(unread(row, 0));
     };
     let here = Stand { count: 0, ..before };
-    let Ok(behind) = walk(row, here, stop_behind(here.at, place, row.len()), &mut print) else {
+    let Ok(behind) = walk(
+        row,
+        here,
+        stop_behind(here.at, place, row.len()),
+        &mut print,
+    ) else {
         return Err(unread(row, 0));
     };
     let Ok(end) = walk(row, Stand { count: 0, ..behind }, row.len(), &mut no_room) else {
