@@ -17,20 +17,20 @@ use Rattle.rules.proofs.Demands as demands
 use Rattle.rules.proofs.Castilian.{sane}
 use Rattle.rows.proofs.Laid.{front}
 use Rattle.rows.specs.Laid.{laid}
+use Rattle.std.specs.Prelude.{Some, None, Ok, Err}
 use Rattle.readings.specs.Print.{points}
 use Rattle.passes.specs.declared.Answer as print
 use Rattle.passes.specs.declared.Answer.TheVariants as prints
 use Rattle.transcriber.specs.Promise as transcribing
 use Rattle.transcriber.specs.Promise.{Transcribed}
 use Rattle.transcriber.proofs.Claims as transcriber
-use Rattle.reader.specs.declared.Answer as row
-use Rattle.reader.specs.declared.Answer.TheVariants as rows
+use Rattle.reader.specs.declared.Refusal as row
+use Rattle.reader.specs.declared.Refusal.TheVariants as rows
 use Rattle.reader.specs.Promise as reading
 use Rattle.reader.specs.Promise.{Read}
 use Rattle.reader.proofs.Claims as reader
-use Rattle.stepper.specs.declared.Shown as step
-use Rattle.stepper.specs.declared.Shown.TheVariants as steps
-use Rattle.stepper.specs.Promise.{Shows, sign_there, no_sign_there, row_refused}
+use Rattle.stepper.specs.declared.Sign as step
+use Rattle.stepper.specs.Promise.{Shown, Shows, sign_there, no_sign_there, row_refused}
 use Rattle.stepper.proofs.Claims as stepper
 use Rattle.stepper.proofs.Visiting.{coded_at, coded_text}
 use Rattle.desk.specs.Demands.{EveryPrintAnswered, EveryRowAnswered, EveryStepAnswered, PrintRefusalWritesNothing, RowRefusalWritesNothing, OneShown, OneRead, OneSign, RoundTrip, RefusedExactly, OneText, ReturnsTheText, RowIsRoom, NoTextExactly, WalkShowsText}
@@ -56,37 +56,38 @@ module _ (tb : Table) (p : Text) (lent : List ℕ) where
   print_outcome a (rules.transcribed r l e k) = (prints.Done (length r), laid r lent, transcribing.done r (rules.transcribed r l e k))
 
 -- the answer of a refused row
-row_answer : (tb : Table) (r : Row) (x : Refusal) → rules.RowRefused tb r x → (a : row.Answer) × (reading.refusal_of a ≡ some x)
+row_answer : (tb : Table) (r : Row) (x : Refusal) → rules.RowRefused tb r x → (a : row.Refusal) × (reading.refusal_of (Err a) ≡ some x)
 row_answer tb r x (rules.long_row l) = (rows.TooLong _, refl)
 row_answer tb r x (rules.refused_not_a_cell n l k u f) = (rows.NotACell n, refl)
 row_answer tb r x (rules.refused_no_text p h) = (rows.NoText, refl)
 row_answer tb r x (rules.long_text t p h l) = (rows.TooLong _, refl)
 
 module _ (tb : Table) (r : Row) where
-  row_outcome : (lent : List ℕ) (a : rules.Answer) → rules.RowAnswer tb r (length lent) a → (b : row.Answer) × (new : List ℕ) × Read tb r lent b new
+  row_outcome : (lent : List ℕ) (a : rules.Answer) → rules.RowAnswer tb r (length lent) a → (b : reading.Answer) × (new : List ℕ) × Read tb r lent b new
   row_outcome lent a (rules.row_refused x h) =
       let q = row_answer tb r x h in
-      (q.0, lent, reading.refused q.0 x q.1 (rules.row_refused x h))
-  row_outcome lent a (rules.text_needs_room t h l) = (rows.NeedsRoom (length t), lent, reading.refused _ _ refl (rules.text_needs_room t h l))
-  row_outcome lent a (rules.read t h l) = (rows.Done (length t), laid t lent, reading.done t (rules.read t h l))
+      (Err q.0, lent, reading.refused (Err q.0) x q.1 (rules.row_refused x h))
+  row_outcome lent a (rules.text_needs_room t h l) = (Err (rows.NeedsRoom (length t)), lent, reading.refused _ _ refl (rules.text_needs_room t h l))
+  row_outcome lent a (rules.read t h l) = (Ok (length t), laid t lent, reading.done t (rules.read t h l))
 
-step_outcome : (r : Row) (place : ℕ) (a : StepAnswer) → Stepped castilian r place a → (s : step.Shown) × Shows castilian r place s
+step_outcome : (r : Row) (place : ℕ) (a : StepAnswer) → Stepped castilian r place a → (s : Shown) × Shows castilian r place s
 step_outcome r place a (stepped t h) = go (sign_at (signs_of castilian t) place) refl (stepped t h)
   where
     go : (x : Option signs.Sign) → sign_at (signs_of castilian t) place ≡ x → Stepped castilian r place (shows (shown_by (sign_at (signs_of castilian t) place) place))
-        → (s : step.Shown) × Shows castilian r place s
-    go none e d = (steps.Still, no_sign_there (subst (λ (x : Option signs.Sign). Stepped castilian r place (shows (shown_by x place))) e d))
+        → (s : Shown) × Shows castilian r place s
+    go none e d = (Ok None, no_sign_there (subst (λ (x : Option signs.Sign). Stepped castilian r place (shows (shown_by x place))) e d))
     go (some s) e d =
         let c = coded_at (signs_of castilian t) (coded_text castilian sane t r h.reads) place s e in
-        let n : ℕ = place + length s.taken in (
-          steps.Sign c.0 c.1 n,
-          sign_there c.0 c.1 n
+        let n : ℕ = place + length s.taken in
+        let sign : step.Sign = record { lead = c.0; point = c.1; next = n } in (
+          Ok (Some sign),
+          sign_there sign
               (subst (λ (u : Text). Stepped castilian r place (shows (record { points = u; next = n }))) c.2
               (subst (λ (x : Option signs.Sign). Stepped castilian r place (shows (shown_by x place))) e d)),
         )
 step_outcome r place a (stayed x h) =
     let q = row_answer castilian r x h in
-    (steps.Refused q.0, row_refused q.0 x q.1 (stayed x h))
+    (Err q.0, row_refused q.0 x q.1 (stayed x h))
 
 pub every_print_answered : EveryPrintAnswered castilian
 every_print_answered p lent = let a = demands.every_print_answered p (length lent) in print_outcome castilian p lent a.0 a.1
@@ -117,7 +118,7 @@ pub round_trip : RoundTrip castilian
 round_trip p lent n new h room a after g enough =
     let t : Text = normal_of p in
     let d = reading.done t (transcriber.reads_back p lent n new h (length room) enough) in
-    let e = reader.one_outcome _ room a (rows.Done (length t)) after (laid t room) g d in
+    let e = reader.one_outcome _ room a (Ok (length t)) after (laid t room) g d in
     (e.0, front t room after (length t) refl e.1)
 
 pub refused_exactly : RefusedExactly castilian

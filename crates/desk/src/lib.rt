@@ -94,6 +94,7 @@ pub extern "C" fn desk_transcribe(print: &[u32], row: &mut [u8]) -> Shown
 }
 
 // The two numbers of an answer to a row.
+#[tactic(auto, unfolding(crate::specs::Shows::read_of, reader::specs::Promise::numbers_of, rules::specs::Refusals::number_of, rules::specs::Refusals::second_of))]
 pub fn read_numbers(answer: Result<usize, reader::Refusal>) -> Shown
     ensures { result ≡ read_of answer }
 {
@@ -116,44 +117,56 @@ pub extern "C" fn desk_read(row: &[u8], text: &mut [u32]) -> Shown
     read_numbers(reader::read(row, text))
 }
 
-// What a step shows, as numbers.
-fn sign_numbers(shown: Result<Option<stepper::Sign>, reader::Refusal>, place: usize) -> Sign
-    ensures { result ≡ sign_of place shown }
+// A sign of a row, as numbers.
+fn shown_sign(sign: stepper::Sign) -> Sign
+    ensures { result ≡ points_of sign.lead sign.point sign.next }
 {
-    match shown {
-        Ok(Some(sign)) => match sign.lead {
-            None => Sign {
-                number: DONE,
-                second: 1,
-                first: sign.point,
-                then: NO_POINT,
-                next: sign.next,
-            },
-            Some(lead) => Sign {
-                number: DONE,
-                second: 2,
-                first: lead,
-                then: sign.point,
-                next: sign.next,
-            },
+    match sign.lead {
+        None => Sign {
+            number: DONE,
+            second: 1,
+            first: sign.point,
+            then: NO_POINT,
+            next: sign.next,
         },
-        Ok(None) => still(DONE, 0, place),
-        Err(refusal) => {
-            let refused = read_numbers(Err(refusal));
-            still(refused.number, refused.second, place)
-        }
+        Some(lead) => Sign {
+            number: DONE,
+            second: 2,
+            first: lead,
+            then: sign.point,
+            next: sign.next,
+        },
     }
 }
 
 // No code point, and the place stays.
-fn still(number: usize, second: usize, place: usize) -> Sign
+fn no_sign(shown: Shown, place: usize) -> Sign
+    ensures { result ≡ still_of shown place }
 {
     Sign {
-        number,
-        second,
+        number: shown.number,
+        second: shown.second,
         first: NO_POINT,
         then: NO_POINT,
         next: place,
+    }
+}
+
+// What a step shows, as numbers.
+#[tactic(auto, unfolding(crate::specs::Shows::sign_of))]
+fn sign_numbers(shown: Result<Option<stepper::Sign>, reader::Refusal>, place: usize) -> Sign
+    ensures { result ≡ sign_of place shown }
+{
+    match shown {
+        Ok(Some(sign)) => shown_sign(sign),
+        Ok(None) => no_sign(
+            Shown {
+                number: DONE,
+                second: 0,
+            },
+            place,
+        ),
+        Err(refusal) => no_sign(read_numbers(Err(refusal)), place),
     }
 }
 
