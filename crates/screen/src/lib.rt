@@ -42,10 +42,7 @@ impl<'a> Reader<'a> {
     pub fn moved(self, place: usize) -> Reader<'a>
         ensures { (result.row ≡ self.entry.row) × (result.place ≡ place) }
     {
-        Reader {
-            row: self.row,
-            place,
-        }
+        Reader { place, ..self }
     }
 }
 
