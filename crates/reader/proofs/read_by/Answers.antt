@@ -1,6 +1,6 @@
 -- `read_by`: what the walk found is the answer (`settle`), and what it wrote to the draft, which has room, is the text (`room_text`, `written_text`). The lent
 -- text is as it was until the draft is copied to it. Assumes nothing.
-use mathlib.Core.Path.{◌≡◌, refl, sym, ap, ◌∙◌}
+use mathlib.Core.Path.{◌≡◌, sym, ap, ◌∙◌}
 use mathlib.Core.List.{List, ◌++◌}
 use Prim.Native.Nat.{ℕ, ◌≤◌}
 use native.Mathlib.Omega.{arith}
