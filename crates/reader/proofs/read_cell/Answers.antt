@@ -1,5 +1,5 @@
 -- `read_cell`: the look-up says what the cell is alone, and so whether the row has a text (`one_none`, `one_alone`). Assumes nothing.
-use mathlib.Core.Path.{◌≡◌, refl, sym, ap, ◌∙◌, subst}
+use mathlib.Core.Path.{◌≡◌, refl, sym, ap, ◌∙◌}
 use mathlib.Core.List.{List, [], ◌∷◌}
 use Prim.Native.Nat.{ℕ, ◌<◌}
 use native.Mathlib.Omega.{arith}
@@ -8,24 +8,24 @@ use Rattle.rules.specs.Cells.{Text}
 use Rattle.rules.specs.Signs.{print_of}
 use Rattle.rows.specs.Laid.{laid}
 use Rattle.readings.specs.Readings.{shown}
-use Rattle.reader.proofs.OneCell.{one_none, one_alone, lone_print, lone_told}
-use Rattle.reader.proofs.Answering.{unread_from_front, accepted, settle_cramped, read_undone, read_refused, read_text}
+use Rattle.reader.proofs.OneCell.{none_shown, alone_shown, lone_print, lone_told}
+use Rattle.reader.proofs.Answering.{unread_from_front, accepted, settle_cramped, read_not_settled, read_refused, read_text}
 use Rattle.reader.proofs.read_cell.Goals as goal
 
 -- the cell is nothing alone
 pub unread-requires : goal.unread-requires
 unread-requires c =
     unread_from_front c.args.row.now (omega (arith, c.requires))
-    (one_none c.args.row.now c.requires (sym (c.shown.ensures ∙ ap (λ (n : ℕ). shown n) c.point_of.ensures) ∙ c.in_default.is))
+    (none_shown c.args.row.now c.requires (sym (c.shown.ensures ∙ ap (λ (n : ℕ). shown n) c.point_of.ensures) ∙ c.in_default.is))
 
 pub returns-in_default : goal.returns-in_default
-returns-in_default c = read_refused c.args.row.now _ c.unread.ensures c.args.text.now
+returns-in_default c = read_refused c.args.row.now _ c.unread.ensures _ _ refl
 
 -- it is something
 pub returns-then-text-eq0 : goal.returns-then-text-eq0
 returns-then-text-eq0 c =
-    let l = one_alone c.args.row.now c.requires (sym (c.shown.ensures ∙ ap (λ (n : ℕ). shown n) c.point_of.ensures) ∙ c.in-Some.is) in
-    read_undone c.args.row.now _ c.args.text.now
+    let l = alone_shown c.args.row.now c.requires (sym (c.shown.ensures ∙ ap (λ (n : ℕ). shown n) c.point_of.ensures) ∙ c.in-Some.is) in
+    read_not_settled c.args.row.now _ c.args.text.now
     (settle_cramped c.args.row.now (omega (arith, c.requires)) (lone_told l) (length c.args.text.now) (omega arith) (omega (arith, c.if-text-eq0.true)))
 
 -- the first element is written
@@ -35,7 +35,7 @@ first-laid p (x ∷ t) h = refl
 
 pub returns : goal.returns
 returns c =
-    let l = one_alone c.args.row.now c.requires (sym (c.shown.ensures ∙ ap (λ (n : ℕ). shown n) c.point_of.ensures) ∙ c.in-Some.is) in
+    let l = alone_shown c.args.row.now c.requires (sym (c.shown.ensures ∙ ap (λ (n : ℕ). shown n) c.point_of.ensures) ∙ c.in-Some.is) in
     let t = lone_told l in
     read_text c.args.row.now (print_of t.signs) t.count (accepted c.args.row.now (omega (arith, c.requires)) t (omega arith)) c.args.text.now _
     (first-laid c.in-Some.point c.args.text.now (omega (arith, c.if-text-eq0.false)) ∙ ap (λ (x : Text). laid x c.args.text.now) (sym (lone_print l)))
