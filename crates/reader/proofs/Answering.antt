@@ -14,14 +14,13 @@ use Rattle.rules.specs.Refusals.{too_long, needs_room, not_a_cell, no_text, long
 use Rattle.rules.specs.Answers as rules
 use Rattle.rules.specs.Answers.{refuses, ProperRow, ReadsAs, RowRefused, long_row, refused_not_a_cell, refused_no_text, long_text, RowAnswer, text_needs_room}
 use Rattle.rules.specs.Castilian.{castilian}
-use Rattle.rules.proofs.Finite.{nothing}
 use Rattle.rules.proofs.Machine.{at_rest}
 use Rattle.rules.proofs.Signs.{cells_of_text}
 use Rattle.rules.proofs.Castilian.{sane}
 use Rattle.rows.specs.Laid.{laid}
 use Rattle.readings.specs.Left.{left}
 use Rattle.readings.proofs.Turning.{end_left}
-use Rattle.reader.specs.Promise.{refusal_of, Read, done, refused}
+use Rattle.reader.specs.Promise.{Answer, Read, done, refused}
 use Rattle.reader.specs.Passes.{FirstHigh, RefusesRow, Settled, settled_done, settled_refused}
 use Rattle.std.specs.Prelude.{Ok, Err}
 use Rattle.reader.specs.declared.Refusal.{Refusal}
@@ -105,11 +104,20 @@ module _ (r : Row) where
   settle_refused a h room = settled_refused a h.0 h.1 (rules.row_refused h.0 h.2)
 
   -- THE ENDS OF `read`: nothing is written
-  pub read_undone : (a : Refusal) (lent : List ℕ) → Settled castilian r (length lent) (Err a) → Read castilian r lent (Err a) lent
-  read_undone a lent (settled_refused b x e answer) = refused (Err b) x e answer
+  pub read_undone : (a : Answer) (lent new : List ℕ) → Settled castilian r (length lent) a → ((n : ℕ) → a ≡ Ok n → ⊥) → new ≡ lent
+      → Read castilian r lent a new
+  read_undone a lent new (settled_done t answer) other same = absurd (other _ refl)
+  read_undone a lent new (settled_refused b x e answer) other same = subst (Read castilian r lent (Err b)) (sym same) (refused (Err b) x e answer)
 
-  pub read_refused : (a : Refusal) → RefusesRow castilian r a → (lent : List ℕ) → Read castilian r lent (Err a) lent
-  read_refused a h lent = refused (Err a) h.0 h.1 (rules.row_refused h.0 h.2)
+  pub read_refused : (a : Refusal) → RefusesRow castilian r a → (lent new : List ℕ) → new ≡ lent → Read castilian r lent (Err a) new
+  read_refused a h lent new same =
+      subst (Read castilian r lent (Err a)) (sym same) (refused (Err a) h.0 h.1 (rules.row_refused h.0 h.2))
+
+  not_done : {a : Refusal} (n : ℕ) → ◌≡◌ {A = Answer} (Err a) (Ok n) → ⊥
+  not_done n e = let z : ◌≡◌ {A = ℕ} 0 1 = cc in omega arith
+
+  pub read_not_settled : (a : Refusal) (lent : List ℕ) → Settled castilian r (length lent) (Err a) → Read castilian r lent (Err a) lent
+  read_not_settled a lent h = read_undone (Err a) lent lent h not_done refl
 
   -- or the text that has the row
   pub settled_text : {n room : ℕ} → Settled castilian r room (Ok n) → (t : Text) × (n ≡ length t) × ReadsAs castilian r t × (length t ≤ room)

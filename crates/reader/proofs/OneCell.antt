@@ -151,11 +151,18 @@ module _ (r : Row) (one : length r ≡ 1) where
       go (c ∷ []) e = cell_says c
       go (c ∷ d ∷ r) e = absurd (omega arith)
 
-  pub one_none : shown point ≡ None → left 0 0 r ≡ none
-  one_none e = says_of.0 (shown_none point e)
+  pub one_none : point ≡ no_point → left 0 0 r ≡ none
+  one_none = says_of.0
 
-  pub one_alone : {p : ℕ} → shown point ≡ Some p → Lone r p
-  one_alone e = let s = shown_some point _ e in subst (Lone r) s.0 (says_of.1 s.1)
+  pub one_alone : (point ≡ no_point → ⊥) → Lone r point
+  one_alone = says_of.1
+
+  -- as an Option
+  pub none_shown : shown point ≡ None → left 0 0 r ≡ none
+  none_shown e = one_none (shown_none point e)
+
+  pub alone_shown : {p : ℕ} → shown point ≡ Some p → Lone r p
+  alone_shown e = let s = shown_some point _ e in subst (Lone r) s.0 (one_alone s.1)
 
 -- and what is told of it
 module _ {r : Row} {p : ℕ} (lone : Lone r p) where

@@ -87,7 +87,17 @@ module _ {row : Row} {w : Stand} (g : Went row (length row) at_start w) where
   abbrev pub told_whole : (at_rest (mode_of (number_of w.mode)) && eqb w.opened 0) ≡ true → Told (left 0 0 row) w.count
   told_whole e = record { signs = g.signs; are = to_end g e; count = omega (arith, g.count) }
 
--- what it wrote to a draft that has room for a code point a cell, or for a text of the longest: of a text that has the row
+-- what it wrote, where there was room: for a code point a cell, or for a text of the longest
+pub room_whole : (row : Row) {c : ℕ} → Told (left 0 0 row) c → (t : List ℕ) → (length row ≤ length t) ⊎ (longest_text ≤ length t) → c ≤ longest_text → c ≤ length t
+room_whole row told t room h =
+    let text = (left_text row told.signs told.are).0 in
+    ⊎_elim (λ l. omega (arith, told.count, no_longer row (print_of told.signs) text, l)) (λ l. omega (arith, h, l)) room
+
+pub written_whole : {row : Row} {w : Stand} (g : Went row (length row) at_start w) (t t' : List ℕ) → Wrote t t' 0 (print_of g.signs) → w.count ≤ length t
+    → take w.count t' ≡ print_of g.signs
+written_whole {w = w} g t t' wrote room = front (print_of g.signs) t t' w.count (omega (arith, g.count)) (wrote.1 (omega (arith, g.count, room)))
+
+-- and of a text that has the row
 pub room_text : {row : Row} {x : Text} → ReadsAs castilian row x → (room : ℕ) → (length row ≤ room) ⊎ (longest_text ≤ room) → length x ≤ room
 room_text {row} {x} h room = ⊎_elim (λ l. omega (arith, no_longer row x h.reads, l)) (λ l. omega (arith, h.short, l))
 

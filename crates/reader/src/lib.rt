@@ -52,7 +52,7 @@ const MOST_REPORTED: usize = 4294967295;
 pub fn reported_length(n: usize) -> usize
     ensures { result ≡ reported n }
 {
-    if n <= MOST_REPORTED { n } else { MOST_REPORTED }
+    n.min(MOST_REPORTED)
 }
 
 // May a text end here: is what was begun whole, and no pair open?
@@ -158,7 +158,7 @@ fn read_cell(row: &[u8], text: &mut [u32]) -> Result<usize, Refusal>
     let Some(point) = point_of(row[0]) else {
         return Err(unread(row, 0));
     };
-    if text.len() == 0 {
+    if text.is_empty() {
         return Err(Refusal::NeedsRoom(1));
     }
     text[0] = point;
@@ -174,7 +174,7 @@ pub fn read(row: &[u8], text: &mut [u32]) -> Result<usize, Refusal>
     // a row of a few cells is asked for first: what is asked is then much of its time
     if row.len() <= WORD_ROW {
         // an empty row has the empty text
-        if row.len() == 0 {
+        if row.is_empty() {
             return Ok(0);
         }
         if row.len() == 1 {

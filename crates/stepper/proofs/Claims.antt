@@ -13,7 +13,6 @@ use Rattle.rules.specs.Answers.{refuses, RowRefused, RowAnswer}
 use Rattle.rules.specs.Screen as screen
 use Rattle.rules.specs.Screen.{StepAnswer, shows, stays, Stepped, stayed}
 use Rattle.rules.specs.Castilian.{castilian}
-use Rattle.rules.proofs.Finite.{nothing}
 use Rattle.rules.proofs.Profile.{Sane}
 use Rattle.rules.proofs.Castilian.{sane}
 use Rattle.rules.proofs.Answers as answers
@@ -23,10 +22,10 @@ use Rattle.std.specs.Prelude.{Some, Ok, Err}
 use Rattle.std.specs.declared.option.Option as rust
 use Rattle.reader.specs.declared.Refusal as reader
 use Rattle.reader.specs.declared.Refusal.TheVariants.{NeedsRoom}
-use Rattle.reader.specs.Promise.{Answer, done, refused}
+use Rattle.reader.specs.Promise.{Answer, refused}
 use Rattle.reader.proofs.Claims.{some_same, known_two, refuses_same, gives_not_refuses, never_room}
 use Rattle.stepper.specs.declared.Sign.{Sign}
-use Rattle.stepper.specs.Promise.{Shown, sign_there, no_sign_there, row_refused}
+use Rattle.stepper.specs.Promise.{sign_there, no_sign_there, row_refused}
 use Rattle.stepper.specs.Claims.{OneShown, RefusedAsRead, NeverSix, StillExactly, WalkShowsText}
 use Rattle.stepper.proofs.Visiting.{shows_same, still_exactly_in, walk_shows_text_in}
 

@@ -23,7 +23,7 @@ pub struct Sign {
 fn stop_before(place: usize, end: usize) -> usize
     ensures { ((place < end) × (result ≡ place)) ⊎ ((end ≤ place) × (result ≡ end)) }
 {
-    if place < end { place } else { end }
+    place.min(end)
 }
 
 // Up to where it walks for that sign, from where it came to: one place on, if that is the place and the row goes on there.
@@ -92,19 +92,15 @@ fn step_row(row: &[u8], place: usize) -> Result<Option<Sign>, Refusal>
     if behind.at == here.at {
         return Ok(None);
     }
-    let next = behind.at;
-    Ok(Some(if behind.count == 1 {
-        Sign {
-            lead: None,
-            point: print[0],
-            next,
-        }
+    let (lead, point) = if behind.count == 1 {
+        (None, print[0])
     } else {
-        Sign {
-            lead: Some(print[0]),
-            point: print[1],
-            next,
-        }
+        (Some(print[0]), print[1])
+    };
+    Ok(Some(Sign {
+        lead,
+        point,
+        next: behind.at,
     }))
 }
 

@@ -2,23 +2,20 @@
 -- text is as it was until the draft is copied to it. Assumes nothing.
 use mathlib.Core.Path.{◌≡◌, sym, ap, ◌∙◌}
 use mathlib.Core.List.{List, ◌++◌}
-use Prim.Native.Nat.{ℕ, ◌≤◌}
+use Prim.Native.Nat.{ℕ}
 use native.Mathlib.Omega.{arith}
-use lib.ListN.{length, take, drop, length-replicate}
+use lib.ListN.{take, drop, length-replicate}
 use lib.Seq.{length-take-le}
 use Rattle.std.proofs.lemmas.Result.{err_from_is_err_and}
-use Rattle.rules.specs.Cells.{Text}
-use Rattle.rules.specs.Answers.{ReadsAs}
-use Rattle.rules.specs.Castilian.{castilian}
 use Rattle.reader.proofs.Parts.{goes_same, room_text, written_text}
-use Rattle.reader.proofs.Answering.{read_undone, settled_text, read_text}
+use Rattle.reader.proofs.Answering.{read_not_settled, settled_text, read_text}
 use Rattle.reader.proofs.read_by.Goals as goal
 
 -- a refusal
 pub returns-in_err-count : goal.returns-in_err-count
 returns-in_err-count g c =
     let p = err_from_is_err_and c.from_residual.result c.from_residual.ensures.1 in
-    rw (p.1, p.2) (read_undone c.args.row.now _ c.args.text.now c.in_err-count.ensures)
+    rw (p.1, p.2) (read_not_settled c.args.row.now _ c.args.text.now c.in_err-count.ensures)
 
 -- a text, which was written to the draft
 pub slice_bounds-copy_from_slice-end : goal.slice_bounds-copy_from_slice-end
