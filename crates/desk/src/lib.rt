@@ -19,6 +19,7 @@ pub struct Shown {
 
 // What a step shows. number 0: second is how many code points, 1 or 2, or 0 where no sign starts at the place; `first` and `then` are the code points, and
 // NO_POINT where there is none; `next` is the place after the sign, or the place itself. Any other number is a refusal, and the place stays.
+// (Numbers, and no Option or Result, since C reads them.)
 #[repr(C)]
 #[derive(Clone, Copy)]
 pub struct Sign {

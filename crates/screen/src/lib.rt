@@ -47,6 +47,7 @@ impl<'a> Reader<'a> {
 }
 
 // Where to move after what was shown at a place: to "the place after it" if it was a sign; else "the place stays".
+// (A function: what is shown is a Result, which can get no methods here.)
 pub fn place_after(shown: Result<Option<Sign>, Refusal>, place: usize) -> usize
     ensures { result ≡ place_after shown place }
 {

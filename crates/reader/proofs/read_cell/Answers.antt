@@ -10,7 +10,6 @@ use borrow.Author.Tests.{eqb-true, eqb-false}
 use Rattle.rules.specs.Cells.{Text}
 use Rattle.rules.specs.Signs.{print_of}
 use Rattle.rows.specs.Laid.{laid}
-use Rattle.readings.specs.Readings.{shown}
 use Rattle.reader.proofs.OneCell.{none_shown, alone_shown, lone_print, lone_told}
 use Rattle.reader.proofs.Answering.{unread_from_front, accepted, settle_cramped, read_not_settled, read_refused, read_text}
 use Rattle.reader.proofs.read_cell.Goals as goal
@@ -19,7 +18,7 @@ use Rattle.reader.proofs.read_cell.Goals as goal
 pub unread-requires : goal.unread-requires
 unread-requires c =
     unread_from_front c.args.row.now (omega (arith, c.requires))
-    (none_shown c.args.row.now c.requires (sym (c.shown.ensures ∙ ap (λ (n : ℕ). shown n) c.point_of.ensures) ∙ c.in_default.is))
+    (none_shown c.args.row.now c.requires (sym c.point_of.ensures ∙ c.in_default.is))
 
 pub returns-in_default : goal.returns-in_default
 returns-in_default c = read_refused c.args.row.now _ c.unread.ensures _ _ refl
@@ -27,7 +26,7 @@ returns-in_default c = read_refused c.args.row.now _ c.unread.ensures _ _ refl
 -- it is something
 pub returns-then-is_empty : goal.returns-then-is_empty
 returns-then-is_empty c =
-    let l = alone_shown c.args.row.now c.requires (sym (c.shown.ensures ∙ ap (λ (n : ℕ). shown n) c.point_of.ensures) ∙ c.in-Some.is) in
+    let l = alone_shown c.args.row.now c.requires (sym c.point_of.ensures ∙ c.in-Some.is) in
     read_not_settled c.args.row.now _ c.args.text.now
     (settle_cramped c.args.row.now (omega (arith, c.requires)) (lone_told l) (length c.args.text.now) (omega arith) (omega (arith, eqb-true (length c.args.text.now) 0 (sym c.if-is_empty.ensures))))
 
@@ -41,7 +40,7 @@ first-laid p (x ∷ t) h = refl
 
 pub returns : goal.returns
 returns c =
-    let l = alone_shown c.args.row.now c.requires (sym (c.shown.ensures ∙ ap (λ (n : ℕ). shown n) c.point_of.ensures) ∙ c.in-Some.is) in
+    let l = alone_shown c.args.row.now c.requires (sym c.point_of.ensures ∙ c.in-Some.is) in
     let t = lone_told l in
     read_text c.args.row.now (print_of t.signs) t.count (accepted c.args.row.now (omega (arith, c.requires)) t (omega arith)) c.args.text.now _
     (first-laid c.in-Some.point c.args.text.now (filled c.args.text.now (sym c.if-is_empty.ensures)) ∙ ap (λ (x : Text). laid x c.args.text.now) (sym (lone_print l)))
