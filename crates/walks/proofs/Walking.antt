@@ -105,7 +105,7 @@ module _ {row : Row} {stop from m₀ o₀ at m o : ℕ} {ss : List Sign} (leads 
   pub leads_few : length (print_of ss) + 2 * from ≤ 2 * at
   leads_few = omega (arith, two_each stop from ss leads.starts, leads.next_is)
 
-  cells_join_on : {k : ℕ} → CellsFrom row at k → CellsFrom row from k
+  pub cells_join_on : {k : ℕ} → CellsFrom row at k → CellsFrom row from k
   cells_join_on more i h l = ⊎_elim (λ j. more i j l) (λ j. leads.cells i h j) (le_or_lt at i)
 
   pub leads_join : {k n u : ℕ} {xs : List Sign} → Leads row stop at m o k n u xs → Leads row stop from m₀ o₀ k n u (ss ++ xs)
@@ -206,7 +206,7 @@ same_step : {x y : Step} → Some x ≡ Some y → x ≡ y
 same_step e = cc
 
 -- a sign that is read as usual has one code point too
-usual_one : (at o w : ℕ) (x : Step) → Some x ≡ step_of at o (usual_by w) → x.lead ≡ None
+pub usual_one : (at o w : ℕ) (x : Step) → Some x ≡ step_of at o (usual_by w) → x.lead ≡ None
 usual_one at o w x = go (eqb (point_in w) no_point)
   where
     go : (b : Bool) → Some x ≡ step_of at o (cond b (a_mark (kind_in w) 1) (one (point_in w) 1 (then_in w))) → x.lead ≡ None
