@@ -91,6 +91,7 @@ fn first_high(row: &[u8], from: usize) -> usize
 }
 
 // Why a row has no text: a byte of it is no cell, or no text of any length has these cells. Before the place `from` all are cells.
+#[tactic(auto, using(crate::proofs::Answering::row_not_cells, crate::proofs::Answering::row_proper, crate::proofs::Answering::row_no_text))]
 pub fn unread(row: &[u8], from: usize) -> Refusal
     requires { (length row.now ≤ longest_row) × (from ≤ length row.now) × CellsFrom row.now 0 from × ((t : Text) → Reads castilian row.now t → ⊥) }
     ensures { RefusesRow castilian row.now result }
@@ -116,6 +117,7 @@ fn walk_whole(row: &[u8], draft: &mut [u32]) -> Result<Stand, NoText>
 }
 
 // The count of code points that are to be written, or the refusal, by what a walk over the whole row found and by the room that is lent.
+#[tactic(auto, using(crate::proofs::Answering::settle_refused))]
 fn settle(row: &[u8], found: Result<Stand, NoText>, room: usize) -> Result<usize, Refusal>
     requires { (length row.now ≤ longest_row) × Found row.now found }
     ensures { Settled castilian row.now room result }
@@ -151,6 +153,7 @@ fn read_by<const ROOM: usize>(row: &[u8], text: &mut [u32]) -> Result<usize, Ref
 }
 
 // A row of one cell: what that is alone, or it has no text. (No walk is needed, nor a draft.)
+#[tactic(auto, using(crate::proofs::Answering::read_refused))]
 fn read_cell(row: &[u8], text: &mut [u32]) -> Result<usize, Refusal>
     requires { length row.now ≡ 1 }
     ensures { Read castilian row.now text.old result text.new }
@@ -168,6 +171,7 @@ fn read_cell(row: &[u8], text: &mut [u32]) -> Result<usize, Refusal>
 // Cells to print: the answer of the rules for any row and any lent text, which then holds the text from its first element on and is otherwise as it was.
 // Two wrong programs that the promise shuts out: one that says that every row has no text, and one that writes before it knows that the row has one.
 // (A longer row with a byte that is no cell is not walked for nothing; to ask that of a short one would cost more than its walk.)
+#[tactic(auto, using(crate::proofs::Answering::read_refused, crate::proofs::Answering::row_long, crate::proofs::Answering::row_not_cells))]
 pub fn read(row: &[u8], text: &mut [u32]) -> Result<usize, Refusal>
     ensures { Read castilian row.now text.old result text.new }
 {

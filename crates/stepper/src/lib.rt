@@ -53,7 +53,7 @@ fn step_cell(row: &[u8], place: usize) -> Result<Option<Sign>, Refusal>
 }
 
 // Any row, walked once: up to the place, over the sign there, and to the end. What is read before and behind the sign is only counted: there is no room for it.
-#[tactic(auto, using(crate::proofs::Answering::step_refused))]
+#[tactic(auto, using(crate::proofs::Answering::step_refused, reader::proofs::Answering::row_long))]
 fn step_row(row: &[u8], place: usize) -> Result<Option<Sign>, Refusal>
     ensures { Shows castilian row.now place result }
 {

@@ -11,7 +11,7 @@ use Rattle.rules.specs.Cells.{Text}
 use Rattle.rules.specs.Signs.{print_of}
 use Rattle.rows.specs.Laid.{laid}
 use Rattle.reader.proofs.OneCell.{none_shown, alone_shown, lone_print, lone_told}
-use Rattle.reader.proofs.Answering.{unread_from_front, accepted, settle_cramped, read_not_settled, read_refused, read_text}
+use Rattle.reader.proofs.Answering.{unread_from_front, accepted, settle_cramped, read_not_settled, read_text}
 use Rattle.reader.proofs.read_cell.Goals as goal
 
 -- the cell is nothing alone
@@ -19,9 +19,6 @@ pub unread-requires : goal.unread-requires
 unread-requires c =
     unread_from_front c.args.row.now (omega (arith, c.requires))
     (none_shown c.args.row.now c.requires (sym c.point_of.ensures ∙ c.in_default.is))
-
-pub returns-in_default : goal.returns-in_default
-returns-in_default c = read_refused c.args.row.now _ c.unread.ensures _ _ refl
 
 -- it is something
 pub returns-then-is_empty : goal.returns-then-is_empty

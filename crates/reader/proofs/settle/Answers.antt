@@ -9,9 +9,6 @@ use Rattle.reader.proofs.settle.Goals as goal
 pub unread-requires : goal.unread-requires
 unread-requires c = let l = lost c.requires.1.2 c.in-Err.is in (c.requires.0, l.within, l.cells, left_none c.args.row.now l.none_left)
 
-pub returns-in-Err : goal.returns-in-Err
-returns-in-Err c = settle_refused c.args.row.now _ c.unread.ensures _
-
 -- it came to the row's end, and something is open there: the row is of cells
 pub returns-then-not-ends : goal.returns-then-not-ends
 returns-then-not-ends c =

@@ -4,14 +4,10 @@ use mathlib.Core.Path.{sym, ◌∙◌}
 use native.Mathlib.Omega.{arith}
 use Rattle.walks.proofs.Walking.{leads_nowhere}
 use Rattle.reader.proofs.Parts.{went, from_start, lost, not_to_end}
-use Rattle.reader.proofs.Answering.{unread_from_front, row_long, row_long_text}
+use Rattle.reader.proofs.Answering.{unread_from_front, row_long_text}
 use Rattle.stepper.proofs.Seeing.{lost_behind, few_parts, told_parts, no_sign_seen, sign_seen, one_point, two_points}
 use Rattle.stepper.proofs.Answering.{step_still, step_sign, step_refused}
 use Rattle.stepper.proofs.step_row.Goals as goal
-
-pub returns-then-row-gt-LONGEST_ROW : goal.returns-then-row-gt-LONGEST_ROW
-returns-then-row-gt-LONGEST_ROW c =
-    step_refused c.args.row.now _ (row_long c.args.row.now _ c.if-row-gt-LONGEST_ROW.true c.reported_length.ensures) c.args.place
 
 -- a walk comes nowhere
 pub unread-requires : goal.unread-requires
