@@ -1,8 +1,8 @@
-// What is read at a place of a row, as the code has it: the answer that a step gives; the modes and the deeds; the classes of cells, by name; the word of a
+// What is read at a place of a row, as the code has it: the answer that a step gives; the modes, the classes of cells and the deeds; the word of a
 // cell by its fields (`cells`); the deed of each mode and class (`table`); the marks of the pairs. What is done with these is crates/signs.
-// A new sign is a line of crates/rules/specs/Castilian.antt, printed again; a new mode, deed or class is added in tools/readings.txt, and as a constant here
-// and in specs/, and a mode besides where it is said what a capital leaves in each (`capital_modes` of specs/Readings, AFTER_CAPITAL of crates/signs); a new pair
-// kind is also an arm of `opener_of` and of `closer_of`, and one whose marks have two cells, as ‘ and ’ have, an arm of `prefixed` of crates/signs.
+// A new sign is a line of crates/rules/specs/Castilian.antt, printed again; a new mode, deed or class is added in tools/readings.txt, and as a variant here
+// and a number in specs/, and a mode besides where it is said what a capital leaves in each (`capital_modes` of specs/Readings, AFTER_CAPITAL of crates/signs); a new pair
+// kind is also a mark of OPENERS and one of CLOSERS, and one whose marks have two cells, as ‘ and ’ have, an arm of `prefixed` of crates/signs.
 #![tactic(auto)]
 
 ghost use Rattle.std.specs.Prelude.{◌≡◌, leb};
@@ -164,7 +164,7 @@ pub enum Deed {
     Prefixed,
 }
 
-// The fields of a cell's word, from the lowest: where each stands, and how many values it has room for. What is asked of most cells is where the machine
+// The fields of a cell's word (a number, so that the table is read once for all of them), from the lowest: where each stands, and how many values it has room for. What is asked of most cells is where the machine
 // finds it at once: the modes lowest, the mode after it highest.
 const USUAL_AT: u64 = 1;
 
@@ -219,6 +219,8 @@ pub fn shown(field: u32) -> Option<u32>
 {
     if field == NO_POINT { None } else { Some(field) }
 }
+
+// The functions that read a field differ in where it stands and how many values it has room for; one for all would be told both at each call, and says no less.
 
 // What a byte is alone: a small letter or a sign, if it is one. (For a row of one cell.)
 pub fn point_of(cell: u8) -> Option<u32>

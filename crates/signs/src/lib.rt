@@ -30,7 +30,7 @@ use readings::{
 // How many bits a cell's word has.
 const WORD_BITS: usize = 64;
 
-// Where the field of a run stands (readings/src/cells.rt).
+// Where the field of a run stands (readings/src/cells.rt): numbers, since a word is shifted by them.
 const FIGURES: usize = 0;
 
 const CAPITALS: usize = 16;
@@ -85,7 +85,7 @@ const AFTER_CAPITAL: u64 = ((Mode::Lone as u64) << (Mode::Free as usize * MODE_B
 // A lower digit is its digit with every dot a row lower, which counts twice as much: 14 counts 9, and 25 counts 18.
 const LOWERED: u8 = 2;
 
-// No cell: past the row's end, or where the byte is none.
+// No cell: past the row's end, or where the byte is none. (No Option: what is read is compared with a cell or looked up, and an Option would be taken apart at each place.)
 const NO_CELL: u8 = 64;
 
 // "Cells are bytes 0 to 63"

@@ -1,21 +1,19 @@
 -- Laws of a walk that the pages name, over `Runs`, which says where a walk is in the middle of a part: a turn; more signs; a part within; a stretch, written or only
 -- counted; the ends of a stretch and of a walk; a quick reading that gives a sign. Assumes nothing.
-use mathlib.Core.Path.{◌≡◌, refl, sym, ap, ◌∙◌, subst}
+use mathlib.Core.Path.{◌≡◌, sym, ap, ◌∙◌}
 use mathlib.Core.Logic.{inl, inr}
-use mathlib.Core.Option.{Option, none}
+use mathlib.Core.Option.{none}
 use mathlib.Core.List.{List, []}
 use Prim.Native.Nat.{ℕ, ◌+◌, ◌≤◌, ◌<◌}
 use native.Mathlib.Omega.{arith}
 use lib.ListN.{length, drop}
 use Rattle.std.specs.declared.option.Option as rust
-use Rattle.std.specs.Prelude.{Some, None, Ok, Err}
+use Rattle.std.specs.Prelude.{Some, Ok, Err}
 use Rattle.rules.specs.Cells.{Row}
 use Rattle.pairs.specs.Opened.{open_states}
 use Rattle.readings.specs.Modes.{mode_count, number_of, mode_at}
-use Rattle.readings.specs.Readings.{no_point, step_at}
 use Rattle.readings.specs.Left.{left}
 use Rattle.readings.specs.Print.{points}
-use Rattle.readings.specs.declared.Mode.{Mode}
 use Rattle.readings.specs.declared.Step.{Step}
 use Rattle.readings.proofs.Turning.{Turn, turn_of}
 use Rattle.signs.specs.Runs.{run_of, Quick, InRun}

@@ -54,7 +54,8 @@ fn put(text: &mut [u32], count: usize, lead: Option<u32>, point: u32) -> usize
     count + 2
 }
 
-// Signs that follow one another alike: as many as `next` reads, from a place and a mode on.
+// Signs that follow one another alike: as many as `next` reads, from a place and a mode on. (A sign has one cell or several, so the next place is what the step says, and there is
+// nothing that a `for` could go over: so in every walk. `row` is here for what is promised. The loop carries numbers and no Stand, as in `stretch`.)
 fn repeated<F: Fn(usize, Mode) -> Option<Step>>(
     next: F,
     row: &[u8],
