@@ -27,7 +27,7 @@ use crate::{Class, Deed, Mode};
 pub fn deed_of(mode: Mode, class: Class) -> Deed
     ensures { deed_number result ≡ deed_of (number_of mode) (class_number class) }
 {
-    match (mode, class) {
+    match (class, mode) {
 TEXT
 
 # An arm for each mode and class, under a comment for each mode.
@@ -39,7 +39,7 @@ function named(name,   word, words, i, whole) {
     return whole
 }
 $2 != state { state = $2; print "        // " state }
-{ split($4, class, " "); print "        (Mode::" named($2) ", Class::" named(class[1]) ") => Deed::" named($3) "," }'
+{ split($4, class, " "); print "        (Class::" named(class[1]) ", Mode::" named($2) ") => Deed::" named($3) "," }'
 
 cat <<'TEXT'
     }
