@@ -15,6 +15,7 @@ export LC_ALL
 
 cells=$(awk -f tools/sign-list.awk | awk -f tools/cell-list.awk)
 places=$(awk -f tools/deeds.awk tools/readings.txt)
+names=$(cat tools/named.awk)
 
 cat <<'TEXT'
 // Printed by tools/print-cells.sh from crates/rules/specs/Castilian.antt and tools/readings.txt: change those, and print it again.
@@ -60,12 +61,7 @@ $3 == "AS_USUAL" && !($2 in told) {
 cat <<'TEXT'
 // What a class is: its number, the modes in which it is read as usual, and the mode after it then.
 TEXT
-printf '%s\n' "$places" | awk -F '\t' '
-function named(name,   word, words, i, whole) {
-    words = split(name, word, "_")
-    for (i = 1; i <= words; i++) whole = whole substr(word[i], 1, 1) tolower(substr(word[i], 2))
-    return whole
-}
+printf '%s\n' "$places" | awk -F '\t' "$names"'
 {
     split($4, name, " ")
     if (!(name[1] in at)) { class[++classes] = name[1]; at[name[1]] = classes }
@@ -85,12 +81,7 @@ cat <<'TEXT'
 // The words of the bytes; that of one that is no cell begins no sign. (Each byte has a place in this table, so that in the reading loop nothing is asked first.)
 static WORDS: [u64; BYTES] = [
 TEXT
-{ printf '%s\n' "$places" | awk -F '\t' '$3 == "AS_USUAL" { split($4, name, " "); print "usual\t" name[1] }' | sort -u; printf '%s\n' "$cells"; } | awk -F '\t' '
-function named(name,   word, words, i, whole) {
-    words = split(name, word, "_")
-    for (i = 1; i <= words; i++) whole = whole substr(word[i], 1, 1) tolower(substr(word[i], 2))
-    return whole
-}
+{ printf '%s\n' "$places" | awk -F '\t' '$3 == "AS_USUAL" { split($4, name, " "); print "usual\t" name[1] }' | sort -u; printf '%s\n' "$cells"; } | awk -F '\t' "$names"'
 $1 == "usual" { usual[$2] = 1; next }
 $1 != "two" {
     word = $3 in usual ? "AS_" $3 : $3 == "NOTHING" ? $3 : "CLASS_AT * Class::" named($3) " as u64"

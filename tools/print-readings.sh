@@ -12,6 +12,7 @@ LC_ALL=C
 export LC_ALL
 
 places=$(awk -f tools/deeds.awk tools/readings.txt)
+names=$(cat tools/named.awk)
 
 cat <<'TEXT'
 // Printed by tools/print-readings.sh from tools/readings.txt: change that, and print it again. The check compares it with the rules.
@@ -31,13 +32,7 @@ pub fn deed_of(mode: Mode, class: Class) -> Deed
 TEXT
 
 # An arm for each mode and class, under a comment for each mode.
-printf '%s\n' "$places" | awk -F '\t' '
-# NO_SIGN is `NoSign`.
-function named(name,   word, words, i, whole) {
-    words = split(name, word, "_")
-    for (i = 1; i <= words; i++) whole = whole substr(word[i], 1, 1) tolower(substr(word[i], 2))
-    return whole
-}
+printf '%s\n' "$places" | awk -F '\t' "$names"'
 $2 != state { state = $2; print "        // " state }
 { split($4, class, " "); print "        (Class::" named(class[1]) ", Mode::" named($2) ") => Deed::" named($3) "," }'
 
