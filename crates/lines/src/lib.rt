@@ -5,8 +5,6 @@
 ghost use Rattle.std.specs.Prelude.{◌≡◌, [], ◌∷◌};
 ghost use Rattle.lines.specs.Held.{Keeps, TakesIn, Moves, is_long};
 
-use std::cmp::Ordering;
-
 // "Byte 10 ends a line"
 const LINE_END: u8 = 10;
 
@@ -24,13 +22,13 @@ pub struct Taken {
 fn hold(line: &mut [u8], held: usize, byte: u8) -> usize
     ensures { Keeps line.old held (byte ∷ []) result line.new }
 {
-    match held.cmp(&line.len()) {
-        Ordering::Less => {
-            line[held] = byte;
-            held + 1
-        }
-        Ordering::Equal => held + 1,
-        Ordering::Greater => held,
+    if held < line.len() {
+        line[held] = byte;
+        held + 1
+    } else if held == line.len() {
+        held + 1
+    } else {
+        held
     }
 }
 

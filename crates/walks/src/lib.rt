@@ -223,29 +223,46 @@ fn unwritten(row: &[u8], from: Stand, stop: usize) -> Result<Stand, NoText>
     stretch(row, Stand { count: 0, ..from }, stop, &mut scrap)
 }
 
-// A walk up to the place `stop`, stretch by stretch. Where there is no room any more, what is read is only counted. (It goes on field by field: copied whole, a Stand is copied
-// with the bytes that are left free between its fields, and a short row takes nearly twice the time.)
+// A walk up to the place `stop`, stretch by stretch. Where there is no room any more, what is read is only counted. (The loop carries numbers and no Stand, as in
+// `stretch`, and each field of a Stand is read by itself: a Stand that is copied whole is read in other pieces than those it was written in, which the processor makes the
+// call wait for; a step over a short row, which walks three times, then takes twice the time.)
 pub fn walk(row: &[u8], from: Stand, stop: usize, text: &mut [u32]) -> Result<Stand, NoText>
     requires { Stands row.now from × (stop ≤ length row.now) × (length text.old ≤ longest_row) }
     ensures { Goes row.now stop from text.old text.new result }
 {
-    let mut now = from;
-    while now.at < stop {
-        let next = if now.count < text.len() {
+    let Stand {
+        mut at,
+        mut mode,
+        mut opened,
+        mut count,
+    } = from;
+    while at < stop {
+        let now = Stand {
+            at,
+            mode,
+            opened,
+            count,
+        };
+        let next = if count < text.len() {
             stretch(row, now, stop, text)?
         } else {
             let read = unwritten(row, now, stop)?;
             Stand {
-                count: now.count + read.count,
+                count: count + read.count,
                 ..read
             }
         };
-        now.at = next.at;
-        now.mode = next.mode;
-        now.opened = next.opened;
-        now.count = next.count;
+        at = next.at;
+        mode = next.mode;
+        opened = next.opened;
+        count = next.count;
     }
-    Ok(now)
+    Ok(Stand {
+        at,
+        mode,
+        opened,
+        count,
+    })
 }
 
 // How many cells are walked at once where nothing is written any more.

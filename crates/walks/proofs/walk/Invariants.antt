@@ -5,8 +5,9 @@ use lib.ListN.{length}
 use Rattle.walks.specs.Walks.{Runs}
 use Rattle.walks.proofs.walk.Given as goal
 
-abbrev pub invariant-loop-now : goal.invariant-loop-now
-invariant-loop-now l = Runs l.row l.stop l.fn.from l.initial.text l.text l.now
+abbrev pub invariant-loop-at : goal.invariant-loop-at
+invariant-loop-at l =
+    Runs l.row l.stop l.fn.from l.initial.text l.text (record { at = l.at; mode = l.mode; opened = l.opened; count = l.count })
 
-abbrev pub decreases-loop-now : goal.decreases-loop-now
-decreases-loop-now l = length l.row - l.now.at
+abbrev pub decreases-loop-at : goal.decreases-loop-at
+decreases-loop-at l = length l.row - l.at
