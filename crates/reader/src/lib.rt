@@ -104,7 +104,8 @@ pub fn unread(row: &[u8], from: usize) -> Refusal
     }
 }
 
-// Walks a whole row. Where the draft is a longer one, it was asked before that the row is of cells.
+// Walks a whole row. Where the draft is a longer one, it was asked before that the row is of cells. (Drawn into `read_by`, where the draft's length is known.)
+#[inline(always)]
 fn walk_whole(row: &[u8], draft: &mut [u32]) -> Result<Stand, NoText>
     requires { (length row.now ≤ longest_row) × (length draft.old ≤ longest_row) × (line_row < length draft.old → AllCells row.now) }
     ensures { Goes row.now (length row.now) at_start draft.old draft.new result }

@@ -223,9 +223,9 @@ fn unwritten(row: &[u8], from: Stand, stop: usize) -> Result<Stand, NoText>
     stretch(row, Stand { count: 0, ..from }, stop, &mut scrap)
 }
 
-// A walk up to the place `stop`, stretch by stretch. Where there is no room any more, what is read is only counted. (The loop carries numbers and no Stand, as in
-// `stretch`, and each field of a Stand is read by itself: a Stand that is copied whole is read in other pieces than those it was written in, which the processor makes the
-// call wait for; a step over a short row, which walks three times, then takes twice the time.)
+// A walk up to the place `stop`, stretch by stretch. Where there is no room any more, what is read is only counted. (It is drawn into its callers, and its loop carries
+// numbers and no Stand, as in `stretch`: a call of its own hands a Stand over in memory, and a step over a short row, which walks three times, takes twice the time.)
+#[inline(always)]
 pub fn walk(row: &[u8], from: Stand, stop: usize, text: &mut [u32]) -> Result<Stand, NoText>
     requires { Stands row.now from × (stop ≤ length row.now) × (length text.old ≤ longest_row) }
     ensures { Goes row.now stop from text.old text.new result }
