@@ -16,25 +16,27 @@ names=$(cat tools/named.awk)
 
 cat <<'TEXT'
 // Printed by tools/print-readings.sh from tools/readings.txt: change that, and print it again. The check compares it with the rules.
-// What is read at a place, by the mode and the class of the cell: a row for each mode.
-ghost use Rattle.std.specs.Prelude.{◌≡◌};
-ghost use Rattle.readings.specs.Modes.{number_of};
-ghost use Rattle.readings.specs.Acts.{deed_number};
-ghost use Rattle.readings.specs.Fields.{class_number, deed_of};
+// What is read at a place, by the mode and the class of the cell: 16 rows of 16.
+ghost use Rattle.std.specs.Prelude.{◌≡◌, ◌<◌, get_or};
+ghost use Rattle.readings.specs.Acts.{deed_number, no_sign};
+ghost use Rattle.readings.specs.Deeds.{deeds, deed_count};
 
-use crate::{Class, Deed, Mode};
+use crate::Deed;
 
+// There is no other place in the table than these.
 #[tactic(auto, unfolding(crate::specs::Deeds::deeds))]
-pub fn deed_of(mode: Mode, class: Class) -> Deed
-    ensures { deed_number result ≡ deed_of (number_of mode) (class_number class) }
+pub fn deed_at(place: usize) -> Deed
+    requires { place < deed_count }
+    ensures { deed_number result ≡ get_or deeds place no_sign }
 {
-    match (class, mode) {
+    match place {
 TEXT
 
-# An arm for each mode and class, under a comment for each mode.
-printf '%s\n' "$places" | awk -F '\t' "$names"'
+# An arm for each place, under a comment for each mode. The last is for all that the others are not.
+last=$(printf '%s\n' "$places" | awk -F '\t' 'END { print $1 }')
+printf '%s\n' "$places" | awk -F '\t' -v last="$last" "$names"'
 $2 != state { state = $2; print "        // " state }
-{ split($4, class, " "); print "        (Class::" named(class[1]) ", Mode::" named($2) ") => Deed::" named($3) "," }'
+{ print "        " ($1 == last ? "_" : $1) " => Deed::" named($3) ", // " $4 }'
 
 cat <<'TEXT'
     }

@@ -7,14 +7,13 @@
 
 ghost use Rattle.std.specs.Prelude.{◌≡◌, leb};
 ghost use Rattle.readings.specs.Modes.{owing, number_of, mode_at};
-ghost use Rattle.readings.specs.Fields.{class_number, class_in, point_in, capital_in, figure_in, lower_in, kind_in, then_in};
+ghost use Rattle.readings.specs.Acts.{deed_number};
+ghost use Rattle.readings.specs.Fields.{class_number, deed_of, class_in, point_in, capital_in, figure_in, lower_in, kind_in, then_in};
 ghost use Rattle.readings.specs.Words.{word_of};
 ghost use Rattle.readings.specs.Readings.{shown, opener_of, closer_of};
 
 pub mod cells;
 mod table;
-
-pub use table::deed_of;
 
 // What a step gives where a sign starts: its print (`lead` is a code point that has no cell and goes before `point`, if it has one), the place after it, and what
 // it leaves: the mode and the open pairs.
@@ -164,6 +163,11 @@ pub enum Deed {
     Prefixed,
 }
 
+// The table has a row for each mode: how many modes and how many classes there is room for.
+pub const MODE_PLACES: usize = 16;
+
+const TABLE_ROW: usize = 16;
+
 // The fields of a cell's word (a number, so that the table is read once for all of them), from the lowest: where each stands, and how many values it has room for. What is asked of most cells is where the machine
 // finds it at once: the modes lowest, the mode after it highest.
 const USUAL_AT: u64 = 1;
@@ -227,6 +231,15 @@ pub fn point_of(cell: u8) -> Option<u32>
     ensures { result ≡ shown (point_in (word_of cell)) }
 {
     shown(point_in(cells::word_of(cell)))
+}
+
+// What the table says of a mode and a class. (The place is one number, so that it is one jump to the code of the deed, whatever mode and class it follows from: of
+// a `match` on both the compiler makes one by the class and more by the mode, which the processor foresees less often. Both numbers are below 16, so that the
+// remainders are they.)
+pub fn deed_of(mode: Mode, class: Class) -> Deed
+    ensures { deed_number result ≡ deed_of (number_of mode) (class_number class) }
+{
+    table::deed_at(mode.number() % MODE_PLACES * TABLE_ROW + class as usize % TABLE_ROW)
 }
 
 // The class of a cell, by its word.
