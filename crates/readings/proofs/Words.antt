@@ -1,18 +1,31 @@
--- A byte that is no cell has no word, alone or as the second of a sign (`no_word`), a cell that is none of the keys of a look-up does not have its field (`no_field`), and the last arm of one that names
--- all others is for the one that is left (`one_left`): what the look-ups of src/ give where no arm is. Assumes nothing.
+-- What a look-up of src/ gives for a byte: the last arm of one that names all others is for the number that is left (`one_left`); a byte that is none of the cells (`past_cells`) has no word in a table of
+-- theirs (`no_word`), and a byte that is none of some keys does not have a field that they alone have (`no_field`); a table has what is said of each of its places (`table_told`). And what a cell is
+-- inside a number, by its fields within a run. Assumes nothing.
 use mathlib.Core.Path.{◌≡◌, refl, sym, ◌∙◌, ap, subst}
 use mathlib.Core.Bool.{Bool, true, false, ◌||◌}
-use mathlib.Core.List.{List}
+use mathlib.Core.List.{List, [], ◌∷◌}
 use mathlib.Core.Logic.{⊎_elim}
-use Prim.Native.Nat.{ℕ, suc, ◌≤◌, ◌<◌}
+use Prim.Native.Nat.{ℕ, suc, ◌+◌, ◌/◌, ◌%◌, ◌≤◌, ◌<◌}
 use native.Mathlib.Omega.{arith}
-use lib.Dec.{T, eqb, eqb→eq}
+use lib.Dec.{T, eqb, ltb, ltb→lt, eqb→eq}
 use lib.ListN.{length, get_or, get_or-eq_default}
-use Rattle.rules.proofs.Finite.{below, at_below, le_or_lt}
+use Rattle.rules.proofs.Finite.{every, and_left, and_right, below, at_below, le_or_lt}
 use Rattle.entries.proofs.Keys.{among, Rest, rest_none}
 use Rattle.entries.proofs.Places.{upto, none_below}
-use Rattle.readings.specs.Fields.{no_cell}
+use Rattle.readings.specs.Fields.{inside_in, run_in, no_cell}
 use Rattle.readings.specs.Words.{words, word_of}
+
+-- what is as great as all keys are less than is none of them
+none_as_great : (n c : ℕ) → n ≤ c → (A : Type 0) → A → (ks : List ℕ) → T (every (λ k. ltb k n) ks) → Rest A ks c
+none_as_great n c l A a [] t = a
+none_as_great n c l A a (k ∷ ks) t =
+    none_as_great n c l (A × (c ≡ k → ⊥))
+    (a, λ q. omega (arith, q, l, ltb→lt k n (and_left (ltb k n) (every (λ k. ltb k n) ks) t))) ks (and_right (ltb k n) (every (λ k. ltb k n) ks) t)
+
+-- so a byte past the cells is none of them
+pub past_cells : (c : ℕ) → no_cell ≤ c → Rest Unit (upto no_cell) c
+unfolding upto
+past_cells c l = none_as_great no_cell c l Unit tt (upto no_cell) tt
 
 -- of any list of the cells' words
 module _ (ws : List ℕ) (full : length ws ≡ no_cell) where
@@ -47,3 +60,13 @@ one_left n k ks t x l r =
 -- a table of the code has at each place what is said of it, if it is so of the places, one by one
 pub table_told : (xs : List ℕ) (f : ℕ → ℕ) (count : ℕ) → T (below (λ n. eqb (get_or xs n 0) (f n)) count) → (n : ℕ) → n < count → get_or xs n 0 ≡ f n
 table_told xs f count t n l = eqb→eq (get_or xs n 0) (f n) (at_below (λ n. eqb (get_or xs n 0) (f n)) count t n l)
+
+-- inside a number a cell is its digit or what it is between two: no cell is both, so that their fields within a run make one
+pub inside_told : (c : ℕ) → run_in (word_of c) % 65536 + run_in (word_of c) / 281474976710656 ≡ inside_in (word_of c)
+unfolding words
+inside_told c =
+    ⊎_elim
+    (λ l. eqb→eq (run_in (word_of c) % 65536 + run_in (word_of c) / 281474976710656) (inside_in (word_of c))
+    (at_below (λ c. eqb (run_in (word_of c) % 65536 + run_in (word_of c) / 281474976710656) (inside_in (word_of c))) no_cell tt c l))
+    (λ l. let e = past_words c l in
+    ap (λ (w : ℕ). run_in w % 65536 + run_in w / 281474976710656) e ∙ sym (ap inside_in e)) (le_or_lt (suc c) no_cell)

@@ -1,5 +1,5 @@
 -- The word of a cell: a number whose fields say what the cell may be. In order: the classes; where the fields stand; what a word says; the cell at a place of a
--- row. The words stand in `Words`. The code's constants are these (src/lib.rt). Assumes nothing.
+-- row. The words stand in `Words`. The code has the places of the fields as constants of these names (src/lib.rt), and the classes as its enum `Class` (`class_number`). Assumes nothing.
 use Rattle.std.specs.Prelude.{Bool, cond, ◌||◌, ℕ, ◌+◌, ◌*◌, ◌/◌, ◌%◌, ◌^◌, eqb, leb, get_or}
 use Rattle.rules.specs.Cells.{Row, last_cell}
 use Rattle.readings.specs.Acts.{no_sign}

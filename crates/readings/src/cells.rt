@@ -2,12 +2,13 @@
 // What a cell may be: its word, by its fields; and its word as the second of a sign of two, which begins with a cell that is none by itself. The check compares
 // what is read at each with the rules.
 ghost use Rattle.std.specs.Prelude.{◌≡◌, get_or};
-ghost use Rattle.readings.specs.Fields.{run_in};
+ghost use Rattle.readings.specs.Fields.{letter_in, inside_in, run_in};
 ghost use Rattle.readings.specs.Words.{word_of, second_of};
 
 use crate::{
-    CAPITAL_AT, CLASS_AT, Class, FIGURE_AT, KIND_AT, LOWER_AT, Mode, POINT_AT, POINT_BITS,
-    RUN_BETWEEN, RUN_CAPITAL, RUN_FIGURE, RUN_LOWER, THEN_AT, USUAL_AT,
+    CAPITAL_AT, CLASS_AT, Class, FIGURE_AT, KIND_AT, LOWER_AT, Mode, NO_POINT, POINT_AT,
+    POINT_BITS, POINT_PLACES, RUN_BETWEEN, RUN_CAPITAL, RUN_FIGURE, RUN_LOWER, THEN_AT, USUAL_AT,
+    capital_in, point_in,
 };
 
 // How many cells there are. "Cells are bytes 0 to 63"
@@ -555,6 +556,18 @@ pub fn word_of(cell: u8) -> u64
     WORDS[cell as usize]
 }
 
+// The small letter of a letter, or NO_POINT.
+pub fn letter_of(cell: u8) -> u32
+    ensures { result ≡ letter_in (word_of cell) }
+{
+    let word = word_of(cell);
+    if capital_in(word) == NO_POINT {
+        NO_POINT
+    } else {
+        point_in(word)
+    }
+}
+
 // The cells that are small letters, and those that are signs, wherever nothing is begun and in a run with a small letter: a bit for each.
 pub const LETTERS_ALONE: u64 = (1 << D1)
     + (1 << D12)
@@ -680,6 +693,16 @@ pub fn run_word(cell: u8) -> u64
     ensures { result ≡ run_in (word_of cell) }
 {
     looked_up(&RUN_WORDS, cell)
+}
+
+// What a cell is inside a number: its digit, the full stop or the comma; or NO_POINT. (No cell is a digit and one of these, so that two fields of its word within a run make one, without
+// a jump.)
+#[tactic(auto, using(crate::proofs::Words::inside_told))]
+pub fn inside_number(cell: u8) -> u32
+    ensures { result ≡ inside_in (word_of cell) }
+{
+    let word = run_word(cell);
+    (word % POINT_PLACES + word / RUN_BETWEEN) as u32
 }
 
 // The cells that begin signs of two and are none by themselves, in their order: where the sign of each stands in the word of the second.

@@ -1,8 +1,9 @@
 // What is read at a place of a row, as the code has it: the answer that a step gives; the modes, the classes of cells and the deeds; the word of a
 // cell by its fields (`cells`); the deed of each mode and class (`table`); the marks of the pairs. What is done with these is crates/signs.
 // A new sign is a line of crates/rules/specs/Castilian.antt, printed again; a new mode, deed or class is added in tools/readings.txt, and as a variant here
-// and a number in specs/, and a mode besides where it is said what a capital leaves in each (`capital_modes` of specs/Readings, AFTER_CAPITAL of crates/signs); a new pair
-// kind is also a mark of OPENERS and one of CLOSERS, and one whose marks have two cells, as ‘ and ’ have, an arm of `prefixed` of crates/signs.
+// and a number in specs/ (`number_of`, `deed_number`, `class_number`); a class besides as an arm of `class_in`, and a mode as an arm of `mode_at`, a place in `code_modes` of specs/Modes, a case
+// of each law that goes mode by mode (proofs/Numbers, Cases of crates/signs), and where it is said what a capital leaves in each (`capital_modes` of specs/Readings, AFTER_CAPITAL of crates/signs);
+// a new pair kind is also a mark of OPENERS and one of CLOSERS, and one whose marks have two cells, as ‘ and ’ have, an arm of `prefixed` of crates/signs.
 #![tactic(auto)]
 
 ghost use Rattle.std.specs.Prelude.{◌≡◌, leb};
@@ -171,6 +172,8 @@ const TABLE_ROW: usize = 16;
 // The fields of a cell's word (a number, so that the table is read once for all of them), from the lowest: where each stands, and how many values it has room for. What is asked of most cells is where the machine
 // finds it at once: the modes lowest, the mode after it highest.
 const USUAL_AT: u64 = 1;
+
+pub const MODE_PLACES: usize = 16;
 
 const POINT_AT: u64 = 65536;
 

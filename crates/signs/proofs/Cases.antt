@@ -1,4 +1,5 @@
--- The ends of the functions, over plain values: what each returns is the reading that its specification says. Assumes nothing.
+-- What the check needs to find that each function of src/ returns what its specification says, and the ends that it does not find, over plain values. In order: what a look-up shows; the cell at a place;
+-- the modes at rest; what a cell is among, and has; the mode after a capital; the step at a place, by its deed; a mode by its number; a cell that is alone; quick readings. Assumes nothing.
 use mathlib.Core.Path.{◌≡◌, refl, sym, ◌∙◌, ap, subst}
 use mathlib.Core.Bool.{Bool, true, false, ◌&&◌, ◌||◌, not, cond, true≢false, beq}
 use mathlib.Core.List.{List, [], ◌∷◌}
@@ -30,6 +31,7 @@ use Rattle.signs.specs.Among.{digit_cells, lower_cells, cell_among, lower_cell, 
 use Rattle.signs.specs.Runs.{between, no_run, run_of, home_of, Quick, InRun}
 use Rattle.readings.specs.declared.Step.{Step}
 use Rattle.std.specs.Prelude.{Option, Some, None}
+use Rattle.readings.proofs.Numbers.{number_back, number_small}
 use Rattle.readings.proofs.Words.{past_words}
 use Rattle.readings.proofs.Settling.{is_true}
 use Rattle.readings.proofs.Tested.{sights}
@@ -153,15 +155,18 @@ has_field g z f t c n =
     ⊎_elim (λ l. subst (λ (b : Bool). T (b || f c)) (not-true (eqb (g (word_of c)) no_point) n) (at_below (λ c. eqb (g (word_of c)) no_point || f c) no_cell t c l))
     (λ l. absurd (has_some (g (word_of c)) n (ap g (past_words c l) ∙ z))) (le_or_lt (suc c) no_cell)
 
--- a lower digit is the digit of half its cell
+-- a digit is what it is inside a number; a lower digit is the digit of half its cell, and so what that is inside one
+pub inside_digit : (w : ℕ) → not (eqb (figure_in w) no_point) ≡ true → inside_in w ≡ figure_in w
+inside_digit w n = rw (not-true (eqb (figure_in w) no_point) n)
+
 pub figure_lowered : (c : ℕ) → lower_cell c ≡ true → figure_in (word_of (c / 2)) ≡ lower_in (word_of c)
 unfolding words
 figure_lowered c n = eqb→eq (figure_in (word_of (c / 2))) (lower_in (word_of c)) (has_field lower_in refl (λ c. eqb (figure_in (word_of (c / 2))) (lower_in (word_of c))) tt c n)
 
 pub inside_lowered : (c : ℕ) → lower_cell c ≡ true → inside_in (word_of (c / 2)) ≡ lower_in (word_of c)
-unfolding words
 inside_lowered c n =
-    eqb→eq (inside_in (word_of (c / 2))) (lower_in (word_of c)) (has_field lower_in refl (λ c. eqb (inside_in (word_of (c / 2))) (lower_in (word_of c))) tt c n)
+    let e = figure_lowered c n in
+    inside_digit (word_of (c / 2)) (ap (λ (f : ℕ). not (eqb f no_point)) e ∙ n) ∙ e
 
 -- the cell of a digit is a letter
 pub digit_letter : (c : ℕ) → digit_cell c ≡ true → letter_in (word_of c) ≡ point_in (word_of c)
@@ -176,24 +181,20 @@ packed (m ∷ ms) = m + 16 * packed ms
 abbrev pub after_capitals : ℕ
 after_capitals = packed capital_modes
 
-pub after_told : (m : Mode) → after_capitals / 2 ^ (number_of m * 4) % 16 ≡ after_capital (number_of m)
+afters_right : T (below (λ n. eqb (after_capitals / 2 ^ (n * 4) % 16) (get_or capital_modes n mode.free)) mode_count)
+afters_right = tt
+
+pub after_told : (m : ℕ) → after_capitals / 2 ^ (m % 16 * 4) % 16 ≡ after_capital m
 unfolding after_capital
-after_told a.Free = refl
-after_told a.Lone = refl
-after_told a.Mixed = refl
-after_told a.Whole1 = refl
-after_told a.Under1 = refl
-after_told a.End = refl
-after_told a.Hyphen = refl
-after_told a.Fem = refl
-after_told a.Percent = refl
-after_told a.Owing = refl
-after_told a.Dash = refl
-after_told a.Whole2 = refl
-after_told a.Num = refl
-after_told a.Low = refl
-after_told a.Under = refl
-after_told a.Mid = refl
+after_told m =
+    eqb→eq (after_capitals / 2 ^ (m % 16 * 4) % 16) (get_or capital_modes (m % 16) mode.free)
+    (at_below (λ n. eqb (after_capitals / 2 ^ (n * 4) % 16) (get_or capital_modes n mode.free)) mode_count afters_right (m % 16) (omega arith))
+
+-- by a mode of the code, whose number is its own last four bits
+pub after_mode : (m : Mode) → after_capitals / 2 ^ (number_of m * 4) % 16 ≡ after_capital (number_of m)
+after_mode m =
+    let e : number_of m ≡ number_of m % 16 = omega (arith, number_small m) in
+    ap (λ (n : ℕ). after_capitals / 2 ^ (n * 4) % 16) e ∙ after_told (number_of m)
 
 pub after_small : (m : Mode) → after_capital (number_of m) < mode_count
 unfolding after_capital
@@ -264,6 +265,15 @@ module _ (row : Row) (at m o w : ℕ) (e : w ≡ word_of (cell_of row at)) where
     pub told_by : step_of at o (choose (once_list w) d (asked_by m d w (cell_of row (at + 1)) (cell_of row (at + 2)))) ≡ step_at row at m o
     told_by = by_deed (choose (once_list w) d (asked_by m d w (cell_of row (at + 1)) (cell_of row (at + 2)))) refl
 
+    -- a capital, and a cell that the deed takes as usual where the word does not
+    pub told_capital_sign : d ≡ act.capital → step_of at o (capital_by m (cell_of row (at + 1)) (cell_of row (at + 2))) ≡ step_at row at m o
+    unfolding asked_by
+    told_capital_sign q = by_deed (capital_by m (cell_of row (at + 1)) (cell_of row (at + 2))) (rw q)
+
+    pub told_usual : d ≡ act.as_usual → step_of at o (prefix_by act.as_usual w (cell_of row (at + 1)) (cell_of row (at + 2))) ≡ step_at row at m o
+    unfolding asked_by
+    told_usual q = by_deed (prefix_by act.as_usual w (cell_of row (at + 1)) (cell_of row (at + 2))) (rw q)
+
     pub told_none : d ≡ act.no_sign → None ≡ step_at row at m o
     told_none q = by_deed reading.nothing (rw q)
 
@@ -284,6 +294,72 @@ module _ (row : Row) (at m o w : ℕ) (e : w ≡ word_of (cell_of row at)) where
 
     pub told_masculine : d ≡ act.masculine_mark → gives (code ".") (code "º") (at + 1) mode.free o ≡ step_at row at m o
     told_masculine q = by_deed (reads (code ".") (code "º") 1 mode.free) (rw q)
+
+-- A MODE BY ITS NUMBER: past the modes, by the last four bits of it. Of a capital they say what it leaves
+capital_same : (m k y z : ℕ) → after_capital m ≡ after_capital k → eqb m mode.owing ≡ eqb k mode.owing → capital_by m y z ≡ capital_by k y z
+unfolding capital_by
+capital_same m k y z e f = rw (e, f) refl
+
+after_last : (n k : ℕ) → k ≡ n % 16 → after_capital k ≡ after_capital n
+unfolding after_capital
+after_last n k e =
+    let q : k % 16 ≡ n % 16 = omega (arith, e) in
+    ap (λ (i : ℕ). get_or capital_modes i mode.free) q
+
+module _ (n : ℕ) (m : Mode) (its : m ≡ mode.mode_at (n % 16)) where
+  pub last_bits : number_of m ≡ n % 16
+  last_bits = ap number_of its ∙ number_back (n % 16) (omega arith)
+
+  pub deed_same : (c : ℕ) → deed_of (number_of m) c ≡ deed_of n c
+  deed_same c =
+      let q : number_of m % 16 ≡ n % 16 = omega (arith, last_bits) in
+      ap (λ (i : ℕ). get_or deeds (i * 16 + c % 16) act.no_sign) q
+
+  module _ (past : mode_count ≤ n) (y z : ℕ) where
+    pub before_owing : number_of m ≡ mode.owing → capital_by mode.lone y z ≡ capital_by n y z
+    unfolding after_capital
+    before_owing e =
+        let q : mode.owing ≡ n % 16 = omega (arith, e, last_bits) in
+        capital_same mode.lone n y z (ap (λ (i : ℕ). get_or capital_modes i mode.free) q) (sym (ne_eqb n mode.owing (λ q. omega (arith, q, past))))
+
+    pub before_other : (number_of m ≡ mode.owing → ⊥) → capital_by (number_of m) y z ≡ capital_by n y z
+    before_other other =
+        capital_same (number_of m) n y z (after_last n (number_of m) last_bits)
+        (ne_eqb (number_of m) mode.owing other ∙ sym (ne_eqb n mode.owing (λ q. omega (arith, q, past))))
+
+-- of what is asked, that of a capital alone hangs on the mode
+asked_same : (m k d w y z : ℕ) → (d ≡ act.capital → ⊥) → asked_by m d w y z ≡ asked_by k d w y z
+unfolding asked_by
+asked_same m k d w y z n = rw (ne_eqb d act.capital n) refl
+
+pub number_same : (row : Row) (at m k o w d : ℕ) → w ≡ word_of (cell_of row at) → usual_in w m ≡ false → usual_in w k ≡ false → d ≡ deed_of m (class_in w)
+    → d ≡ deed_of k (class_in w) → (d ≡ act.capital → ⊥) → step_at row at m o ≡ step_at row at k o
+number_same row at m k o w d e u v f g n =
+    sym (told_by row at m o w e u d f)
+    ∙ ap (λ (x : Reading). step_of at o (choose (once_list w) d x)) (asked_same m k d w (cell_of row (at + 1)) (cell_of row (at + 2)) n)
+    ∙ told_by row at k o w e v d g
+
+-- the deed of a cell that is read as usual says so
+usuals_right : T (below (λ x. below (λ m. not (usual_in (word_of x) m) || eqb (deed_of m (class_in (word_of x))) act.as_usual) mode_count) sights)
+unfolding words deeds
+usuals_right = tt
+
+pub no_usual : (row : Row) (at m w : ℕ) → m < mode_count → w ≡ word_of (cell_of row at) → (deed_of m (class_in w) ≡ act.as_usual → ⊥) → usual_in w m ≡ false
+no_usual row at m w l e n = go (usual_in w m) refl
+  where
+    t : T (not (usual_in (word_of (cell_of row at)) m) || eqb (deed_of m (class_in (word_of (cell_of row at)))) act.as_usual)
+    t =
+        at_below (λ m. not (usual_in (word_of (cell_of row at)) m) || eqb (deed_of m (class_in (word_of (cell_of row at)))) act.as_usual) mode_count
+        (at_below (λ x. below (λ m. not (usual_in (word_of x) m) || eqb (deed_of m (class_in (word_of x))) act.as_usual) mode_count) sights usuals_right (cell_of row at) (sight_small (get_or row at no_cell))) m l
+
+    go : (b : Bool) → usual_in w m ≡ b → b ≡ false
+    go true u =
+        absurd
+        (n
+        (ap (λ (v : ℕ). deed_of m (class_in v)) e
+        ∙ eqb→eq (deed_of m (class_in (word_of (cell_of row at)))) act.as_usual
+        (implies (usual_in (word_of (cell_of row at)) m) (eqb (deed_of m (class_in (word_of (cell_of row at)))) act.as_usual) (subst T (sym (ap (λ (v : ℕ). usual_in v m) (sym e) ∙ u)) tt) t)))
+    go false u = refl
 
 -- what `usual` returns
 module _ (w at o : ℕ) where
@@ -465,6 +541,14 @@ home_run m = go (eqb m mode.mid) refl
     go : (b : Bool) → eqb m mode.mid ≡ b → run_of (cond b mode.num m) ≡ run_of m
     go true e = sym (ap run_of (eqb→eq m mode.mid (subst T (sym e) tt)))
     go false e = refl
+
+pub home_small : (m : ℕ) → m < mode_count → home_of m < mode_count
+unfolding home_of
+home_small m l = go (eqb m mode.mid)
+  where
+    go : (b : Bool) → cond b mode.num m < mode_count
+    go true = omega arith
+    go false = l
 
 -- a cell that is a point or a comma between two digits, where a digit follows; the mode that it leaves is in the same run
 abbrev between_test : ℕ → Bool

@@ -1,6 +1,6 @@
 -- Signs that follow one another alike, so that a loop of its own may read them. In order: the run that a mode is in; the mode
 -- that a cell of it leaves; what a quick reading may answer. Assumes nothing.
-use Rattle.std.specs.Prelude.{Option, Some, None, cond, List, [], ◌∷◌, ◌⊎◌, ◌≡◌, ℕ, eqb}
+use Rattle.std.specs.Prelude.{Option, Some, None, cond, List, [], ◌∷◌, ◌⊎◌, ◌≡◌, ℕ, ◌<◌, eqb}
 use Rattle.rules.specs.Cells.{Row}
 use Rattle.entries.specs.Chosen.{choose}
 use Rattle.readings.specs.Modes as mode
@@ -45,9 +45,9 @@ field_of run = cond (eqb run no_run) None (Some run)
 unfoldable pub home_of : ℕ → ℕ
 home_of m = cond (eqb m mode.mid) mode.num m
 
--- A QUICK READING: nothing, which says nothing, or what the step is; then the sign leaves the mode n, and the pairs as they are
+-- A QUICK READING: nothing, which says nothing, or what the step is; then the sign leaves the mode n, which is one, and the pairs as they are
 abbrev pub Quick : Row → ℕ → ℕ → ℕ → ℕ → Option Step → Type 0
-Quick row at m n o s = (s ≡ None) ⊎ ((s ≡ step_at row at m o) × ((p : ℕ) × (k : ℕ) × (s ≡ Some (a_step no_point p k n o))))
+Quick row at m n o s = (s ≡ None) ⊎ ((s ≡ step_at row at m o) × (n < mode.mode_count) × ((p : ℕ) × (k : ℕ) × (s ≡ Some (a_step no_point p k n o))))
 
 -- IN A RUN: a quick reading whose sign leaves a mode of the same run
 abbrev pub InRun : Row → ℕ → ℕ → ℕ → Option Step → Type 0

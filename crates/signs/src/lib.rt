@@ -4,7 +4,7 @@
 // a word and where nothing is begun, a bit tells it (`is_alone`, `mode_behind`).
 #![tactic(auto)]
 
-ghost use Rattle.std.specs.Prelude.{Some, None, cond, eqb, true, false, ◌≡◌, ◌+◌, ◌<◌, ◌≤◌, length, get_or};
+ghost use Rattle.std.specs.Prelude.{Some, None, ℕ, cond, eqb, true, false, ◌≡◌, ◌+◌, ◌<◌, ◌≤◌, length, get_or};
 ghost use Rattle.rules.specs.Cells.{last_cell};
 ghost use Rattle.rules.specs.Pairs.{kinds};
 ghost use Rattle.rules.specs.Refusals.{longest_row};
@@ -23,8 +23,9 @@ use readings::cells::{
     D256, D356, D1245, D2356, LETTERS_ALONE, SIGNS_ALONE,
 };
 use readings::{
-    Deed, INNER_QUOTES, Mode, POINT_BITS, POINT_PLACES, Step, capital_in, cells, class_in,
-    closer_of, deed_of, figure_in, kind_in, lower_in, mode_at, opener_of, point_in, shown, then_in,
+    Deed, INNER_QUOTES, MODE_PLACES, Mode, POINT_BITS, POINT_PLACES, Step, capital_in, cells,
+    class_in, closer_of, deed_of, figure_in, kind_in, lower_in, mode_at, opener_of, point_in,
+    shown, then_in,
 };
 
 // How many bits a cell's word has.
@@ -63,9 +64,7 @@ const LOWER_CELLS: u64 = (1 << D2)
     + (1 << D35)
     + (1 << D356);
 
-// How many modes there are, and how many bits the number of one has.
-const MODES: usize = 16;
-
+// How many bits the number of a mode has.
 const MODE_BITS: usize = 4;
 
 // The mode after a capital that has a 46 of its own, for each mode before it: `Lone` where a run begins, and 0, which is `Free`, where no such capital stands.
@@ -219,7 +218,7 @@ pub fn mode_behind(cell: u8) -> Mode
 fn after_capital(mode: Mode) -> Option<Mode>
     ensures { result ≡ cond (eqb (after_capital (number_of mode)) free) None (Some (mode_at (after_capital (number_of mode)))) }
 {
-    match mode_at((AFTER_CAPITAL >> (mode.number() * MODE_BITS)) as usize % MODES) {
+    match mode_at((AFTER_CAPITAL >> (mode.number() * MODE_BITS)) as usize % MODE_PLACES) {
         Mode::Free => None,
         after => Some(after),
     }
@@ -253,18 +252,18 @@ fn capital(row: &[u8], at: usize, mode: Mode, opened: usize) -> Option<Step>
 
 // After 3456: a digit begins a number, a lower digit an ordinal or a fraction. (Both are looked up in one table, so that there is no jump for the
 // processor to foresee.)
-#[tactic(auto, using(crate::proofs::Cases::figure_lowered), unfolding(readings::specs::Readings::number_by))]
+#[tactic(auto, using(crate::proofs::Cases::inside_digit, crate::proofs::Cases::inside_lowered), unfolding(readings::specs::Readings::number_by))]
 fn number(row: &[u8], at: usize, opened: usize) -> Option<Step>
     requires { (length row.now ≤ longest_row) × (at < length row.now) }
     ensures { result ≡ step_of at opened (number_by (word_of (cell_of row.now (at + 1)))) }
 {
     let second = cell_at(row, at + 1);
     if is_digit(second) {
-        return Some(sign(figure_in(word_of(second)), at + 2, Mode::Num, opened));
+        return Some(sign(cells::inside_number(second), at + 2, Mode::Num, opened));
     }
     if is_lower(second) {
         return Some(sign(
-            figure_in(word_of(second / LOWERED)),
+            cells::inside_number(second / LOWERED),
             at + 2,
             Mode::Low,
             opened,
@@ -294,7 +293,7 @@ fn field_in(word: u64, at: usize) -> Option<u32>
 
 // A sign that begins with a cell that is none by itself and whose word is at hand. "A lower-case a to j directly after a number's last digit has cell 5 before it."
 // (Of ‘ and ’, which have the same cells, the look-up has the opener.)
-#[tactic(auto, using(crate::proofs::Cases::none_shown, crate::proofs::Cases::some_shown), unfolding(readings::specs::Readings::prefix_by, readings::specs::Readings::longer_by, readings::specs::Readings::two_of))]
+#[tactic(auto, using(crate::proofs::Cases::digit_letter, crate::proofs::Cases::none_shown, crate::proofs::Cases::some_shown), unfolding(readings::specs::Readings::prefix_by, readings::specs::Readings::longer_by, readings::specs::Readings::two_of))]
 fn prefixed(row: &[u8], at: usize, word: u64, deed: Deed, opened: usize) -> Option<Step>
     requires { (length row.now ≤ longest_row) × (at < length row.now) × (opened < open_states) }
     ensures { result ≡ step_of at opened (prefix_by (deed_number deed) word (cell_of row.now (at + 1)) (cell_of row.now (at + 2))) }
@@ -302,7 +301,8 @@ fn prefixed(row: &[u8], at: usize, word: u64, deed: Deed, opened: usize) -> Opti
     let second = cell_at(row, at + 1);
     if deed == Deed::Separates {
         if is_digit(second) {
-            return Some(sign(point_in(word_of(second)), at + 2, Mode::Mixed, opened));
+            let letter = cells::letter_of(second);
+            return Some(sign(letter, at + 2, Mode::Mixed, opened));
         }
     }
     let point = field_in(cells::second_word(second), kind_in(word) * POINT_BITS)?;
@@ -412,6 +412,34 @@ pub fn sign_at(row: &[u8], at: usize, word: u64, mode: Mode, opened: usize) -> O
             opened,
         }),
         _ => asked(row, at, word, mode, deed, opened),
+    }
+}
+
+// The mode by which a capital is read, by its number. Past the modes the last four bits say what the capital leaves; but a small letter is owed in Owing alone, so where the bits are those of Owing
+// it is Lone, in which a capital leaves the same and > may stand.
+fn mode_before(number: usize) -> Mode
+    ensures { (second : ℕ) (third : ℕ) → capital_by (number_of result) second third ≡ capital_by number second third }
+{
+    if number < MODE_PLACES {
+        return mode_at(number);
+    }
+    match mode_at(number % MODE_PLACES) {
+        Mode::Owing => Mode::Lone,
+        mode => mode,
+    }
+}
+
+// The same by the mode's number, and for any number, as `step_at` is: past the modes its last four bits say the deed. (They may say that a cell is read as usual where the number does not; then
+// it is looked up as the first of two.)
+pub fn sign_by_number(row: &[u8], at: usize, word: u64, mode: usize, opened: usize) -> Option<Step>
+    requires { (length row.now ≤ longest_row) × (at < length row.now) × (opened < open_states) × (word ≡ word_of (cell_of row.now at)) × (usual_in word mode ≡ false) }
+    ensures { result ≡ step_at row.now at mode opened }
+{
+    let its = mode_at(mode % MODE_PLACES);
+    match deed_of(its, class_in(word)) {
+        Deed::AsUsual => prefixed(row, at, word, Deed::AsUsual, opened),
+        Deed::Capital => capital(row, at, mode_before(mode), opened),
+        _ => sign_at(row, at, word, its, opened),
     }
 }
 

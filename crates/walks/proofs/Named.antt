@@ -15,6 +15,7 @@ use Rattle.readings.specs.Modes.{mode_count, number_of, mode_at}
 use Rattle.readings.specs.Left.{left}
 use Rattle.readings.specs.Print.{points}
 use Rattle.readings.specs.declared.Step.{Step}
+use Rattle.readings.proofs.Numbers.{number_back}
 use Rattle.readings.proofs.Turning.{Turn, turn_of}
 use Rattle.signs.specs.Runs.{run_of, Quick, InRun}
 use Rattle.walks.specs.Walks.{Wrote, uncounted, Strides, strides_on, strides_nowhere, Runs, Goes, goes_on, goes_nowhere}
@@ -57,14 +58,16 @@ module _ {row : Row} {stop : ℕ} {v w : Stand} {t₀ t : List ℕ} (mid : Runs 
 same_step : {x y : Step} → Some x ≡ Some y → x ≡ y
 same_step e = cc
 
--- a quick reading that gives a sign is a turn, and that sign has one code point
+-- a quick reading that gives a sign is a turn, and that sign has one code point; in a run the mode that it leaves is in the same run
 pub quick_turn : (row : Row) (at m m' o : ℕ) → at < length row → m < mode_count → o < open_states → (s : rust.Option Step) → Quick row at m m' o s
     → (x : Step) → s ≡ Some x
-    → (x.mode ≡ mode_at m') × (x.opened ≡ o) × Turn row at m o x.lead x.point x.next (number_of x.mode) x.opened × (length (points x.lead x.point) ≡ 1)
+    → (number_of x.mode ≡ m') × (x.mode ≡ mode_at m') × (x.opened ≡ o) × Turn row at m o x.lead x.point x.next (number_of x.mode) x.opened × (length (points x.lead x.point) ≡ 1)
 quick_turn row at m m' o inside small few s (inl e) x q = let z : ◌≡◌ {A = ℕ} 0 1 = cc in absurd (omega (arith, z))
-quick_turn row at m m' o inside small few s (inr (h, (p, k, f))) x q =
-    let g = same_step (sym q ∙ f) in (
-      ap (λ (s : Step). s.mode) g,
+quick_turn row at m m' o inside small few s (inr (h, is_mode, (p, k, f))) x q =
+    let g = same_step (sym q ∙ f) in
+    let e : x.mode ≡ mode_at m' = ap (λ (s : Step). s.mode) g in (
+      ap number_of e ∙ number_back m' is_mode,
+      e,
       ap (λ (s : Step). s.opened) g,
       turn_of row at m o inside small few x (sym h ∙ q),
       ap (λ (s : Step). length (points s.lead s.point)) g,
@@ -72,5 +75,5 @@ quick_turn row at m m' o inside small few s (inr (h, (p, k, f))) x q =
 
 pub run_turn : (row : Row) (at m o : ℕ) → at < length row → m < mode_count → o < open_states → (s : rust.Option Step) → InRun row at m o s
     → (x : Step) → s ≡ Some x
-    → (n : ℕ) × (run_of n ≡ run_of m) × (x.mode ≡ mode_at n) × (x.opened ≡ o) × Turn row at m o x.lead x.point x.next (number_of x.mode) x.opened × (length (points x.lead x.point) ≡ 1)
-run_turn row at m o inside small few s (n, e, h) x q = let t = quick_turn row at m n o inside small few s h x q in (n, e, t.0, t.1, t.2, t.3)
+    → (run_of (number_of x.mode) ≡ run_of m) × (x.opened ≡ o) × Turn row at m o x.lead x.point x.next (number_of x.mode) x.opened × (length (points x.lead x.point) ≡ 1)
+run_turn row at m o inside small few s (n, e, h) x q = let t = quick_turn row at m n o inside small few s h x q in (ap run_of t.0 ∙ e, t.2, t.3, t.4)

@@ -355,7 +355,7 @@ module _ {row : Row} {stop : ℕ} {v w : Stand} {t₀ t : List ℕ} (mid : Runs 
 module _ (row : Row) (at : ℕ) (m : Mode) (w : Stand) (s : rust.Option Step) where
   quick_alike : (n : ℕ) → n < mode_count → Kin n (number_of w.mode) → Quick row at (number_of m) n w.opened s → Alike row at m w s
   quick_alike n small kin (inl e) = inl e
-  quick_alike n small kin (inr (e, (p, k, f))) =
+  quick_alike n small kin (inr (e, is_mode, (p, k, f))) =
       inr (e, (a_step no_point p k n w.opened, f, refl, refl, subst (λ (i : ℕ). Kin i (number_of w.mode)) (sym (number_back n small)) kin))
 
   pub same_alike : (n : ℕ) → run_of n ≡ no_run → number_of w.mode ≡ n → Kin (number_of m) (number_of w.mode) → Quick row at n n w.opened s → Alike row at m w s

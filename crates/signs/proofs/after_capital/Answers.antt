@@ -1,11 +1,11 @@
--- `after_capital`: four bits of the number for each mode (`after_told`). Assumes nothing.
+-- `after_capital`: four bits of the number for each mode (`after_mode`). Assumes nothing.
 use mathlib.Core.Path.{◌≡◌, sym, ap, ◌∙◌}
 use Prim.Native.Nat.{ℕ, ◌*◌, ◌/◌, ◌%◌, ◌^◌}
 use Rattle.readings.specs.Modes.{number_of, mode_at}
 use Rattle.readings.specs.Readings.{after_capital}
 use Rattle.readings.specs.declared.Mode.{Mode}
 use Rattle.readings.proofs.Numbers.{number_back}
-use Rattle.signs.proofs.Cases.{after_capitals, after_told, after_small, some_mode, mode_given}
+use Rattle.signs.proofs.Cases.{after_capitals, after_mode, after_small, some_mode, mode_given}
 use Rattle.signs.proofs.after_capital.Goals as goal
 
 -- what is looked up
@@ -14,7 +14,7 @@ looked m a k e f = ap number_of e ∙ ap (λ (n : ℕ). number_of (mode_at n)) f
 
 module _ (m : Mode) (n : ℕ) (e : n ≡ number_of m) where
   told : after_capitals / 2 ^ (n * 4) % 16 ≡ after_capital (number_of m)
-  told = ap (λ (k : ℕ). after_capitals / 2 ^ (k * 4) % 16) e ∙ after_told m
+  told = ap (λ (k : ℕ). after_capitals / 2 ^ (k * 4) % 16) e ∙ after_mode m
 
 pub returns-in-Free : goal.returns-in-Free
 returns-in-Free c =

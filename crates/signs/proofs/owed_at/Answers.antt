@@ -19,5 +19,6 @@ returns c =
       ap Some c.sign.ensures
           ∙ owed_step r c.args.at c.args.opened c.in_ok-letter.letter (sym (cell_low r c.args.at c.requires.1 (omega (arith, c.if-row-at-ne-D46.false))) ∙ c.if-row-at-ne-D46.false)
           (s.0 ∙ c.capital_in.ensures ∙ ap capital_in c.word_of.ensures ∙ ap (λ (y : ℕ). capital_in (word_of y)) c.byte_at.ensures ∙ ap capital_in (byte_word r (c.args.at + 1))) s.1,
+      omega arith,
       (c.in_ok-letter.letter, c.args.at + 2, ap Some c.sign.ensures),
     )

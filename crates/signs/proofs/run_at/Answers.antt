@@ -10,7 +10,7 @@ use Rattle.readings.specs.Words.{word_of}
 use Rattle.readings.specs.Readings.{no_point, shown}
 use Rattle.readings.proofs.Numbers.{number_small}
 use Rattle.signs.specs.Runs.{between, home_of}
-use Rattle.signs.proofs.Cases.{gives, some_shown, cell_low, run_step, home_run, in_number}
+use Rattle.signs.proofs.Cases.{gives, some_shown, cell_low, run_step, home_run, home_small, in_number}
 use Rattle.signs.proofs.run_at.Goals as goal
 
 pub returns-in-Some : goal.returns-in-Some
@@ -24,6 +24,7 @@ returns-in-Some c =
       inr (
         e ∙ run_step c.args.row.now c.args.at m c.args.opened c.in-Some.point c.args.run (number_small c.args.mode) c.requires.1 c.if-cell-gt-LAST_CELL.false c.requires.2 c.requires.3
             (f.0 ∙ ap (λ (v : ℕ). field_in v c.args.run) c.run_word-word.ensures) f.1,
+        home_small (number_of c.args.mode) (number_small c.args.mode),
         (c.in-Some.point, c.args.at + 1, e),
       ),
     )
