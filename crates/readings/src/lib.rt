@@ -173,8 +173,6 @@ const TABLE_ROW: usize = 16;
 // finds it at once: the modes lowest, the mode after it highest.
 const USUAL_AT: u64 = 1;
 
-pub const MODE_PLACES: usize = 16;
-
 const POINT_AT: u64 = 65536;
 
 pub const POINT_PLACES: u64 = 65536;
