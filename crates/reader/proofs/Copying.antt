@@ -1,6 +1,6 @@
--- A draft that is copied to the front of the lent text, element by element: at each place the elements before it are copied, and all others are as they
--- were (`Copied`). In order: the start; a turn; what is kept; the end. Assumes nothing.
-use mathlib.Core.Path.{◌≡◌, ap, ◌∙◌}
+-- A draft that is copied to the front of the lent text, element by element or all at once: at each place the elements before it are copied, and all others are as they
+-- were (`Copied`). In order: the start; a turn; all at once; what is kept; the end. Assumes nothing.
+use mathlib.Core.Path.{◌≡◌, sym, ap, ◌∙◌}
 use mathlib.Core.List.{List, ◌++◌}
 use Prim.Native.Nat.{ℕ, suc, ◌+◌, ◌≤◌, ◌<◌, zero-le}
 use native.Mathlib.Omega.{arith}
@@ -14,6 +14,17 @@ pub record Copied (draft lent text : List ℕ) (place : ℕ) : Type 0 where
 
 pub copied_start : (draft lent : List ℕ) → Copied draft lent lent 0
 copied_start draft lent = record { within = zero-le; holds = paste-zero lent 0 draft }
+
+-- what the library's copy leaves: the draft, and behind it what was there
+pub copied_at_once : (draft lent : List ℕ) → Copied draft lent (draft ++ drop (length draft) lent) (length draft)
+copied_at_once draft lent =
+    let behind : 0 + length draft ≡ length draft = omega arith in
+    record {
+      within = omega arith;
+      holds =
+          ap (λ (t : List ℕ). t ++ drop (length draft) lent) (sym (take-length draft))
+          ∙ ap (λ (n : ℕ). take (length draft) draft ++ drop n lent) (sym behind);
+    }
 
 module _ {draft lent text : List ℕ} {place : ℕ} (room : length draft ≤ length lent) (copied : Copied draft lent text place) where
   pub copied_on : place < length draft → Copied draft lent (set text place (get_or draft place 0)) (place + 1)

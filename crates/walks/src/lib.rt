@@ -39,6 +39,7 @@ impl Stand {
 }
 
 // Writes a sign's code points behind those that are counted, and counts them. There is room for one; two that have no room both are only counted.
+#[tactic(auto, using(crate::proofs::Writing::put_one, crate::proofs::Writing::put_two))]
 fn put(text: &mut [u32], count: usize, lead: Option<u32>, point: u32) -> usize
     requires { (count ≤ most_points) × (count < length text.old) }
     ensures { (result ≡ count + length (points lead point)) × Wrote text.old text.new count (points lead point) }

@@ -1,5 +1,5 @@
 -- `read_by`: what the walk found is the answer (`settle`), and what it wrote to the draft, which has room, is the text (`room_text`, `written_text`). The lent
--- text is as it was until the draft is copied to it. Assumes nothing.
+-- text is as it was until the draft is copied to it, and behind it then (`copied_end`). Assumes nothing.
 use mathlib.Core.Path.{◌≡◌, sym, ap, ◌∙◌}
 use mathlib.Core.List.{List, ◌++◌}
 use Prim.Native.Nat.{ℕ}
@@ -8,6 +8,7 @@ use lib.ListN.{take, drop, length-replicate}
 use lib.Seq.{length-take-le}
 use Rattle.std.proofs.lemmas.Result.{err_from_is_err_and}
 use Rattle.reader.proofs.Parts.{goes_same, room_text, written_text}
+use Rattle.reader.proofs.Copying.{copied_at_once, copied_end}
 use Rattle.reader.proofs.Answering.{read_not_settled, settled_text, read_text}
 use Rattle.reader.proofs.read_by.Goals as goal
 
@@ -44,4 +45,6 @@ returns g c =
     let wrote = written_text c.walk_whole-found.ensures t.0 t.2.reads (omega (arith, room_text t.2 g.row.ROOM c.requires.3, length-replicate {A = ℕ} g.row.ROOM 0)) in
     let copied : c.copy_from_slice.new.self ≡ t.0 = c.copy_from_slice.ensures.after ∙ ap (λ (n : ℕ). take n c.walk_whole-found.new.draft) t.1 ∙ wrote in
     read_text c.args.row.now t.0 t.1 t.2 c.args.text.now _
-    (ap (λ (x : List ℕ). x ++ drop c.in_ok-count.count c.args.text.now) copied ∙ ap (λ (n : ℕ). t.0 ++ drop n c.args.text.now) t.1) t.3
+    (ap (λ (x : List ℕ). x ++ drop c.in_ok-count.count c.args.text.now) copied ∙ ap (λ (n : ℕ). t.0 ++ drop n c.args.text.now) t.1
+    ∙ copied_end t.3 (copied_at_once t.0 c.args.text.now) (omega arith))
+    t.3
