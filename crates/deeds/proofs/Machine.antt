@@ -20,7 +20,7 @@ use Rattle.deeds.specs.Acts as act
 use Rattle.deeds.specs.Deeds.{deeds}
 use Rattle.deeds.specs.Numbers.{act_number, fault_number}
 use Rattle.deeds.specs.declared.Act.{Act}
-use Rattle.deeds.specs.declared.Act.TheVariants.{Sign, Letter, SeparatedLetter, CapitalAlone, FirstOfCapitals, CapitalOfMany, FirstOfNumber, Digit, PointInside, PointAfter, FirstOfForm, LowerDigit, StopOfOrdinal, FeminineMark, BarOfFraction, DigitUnder, TheHyphen, TheDash}
+use Rattle.deeds.specs.declared.Act.TheVariants.{Sign}
 use Rattle.deeds.specs.declared.Fault.{Fault}
 use Rattle.deeds.specs.declared.Fault.TheVariants.{NoSign, OutsideForm, SharesCells}
 use Rattle.deeds.specs.Stages.{stage_at, deed_of, settled_by, way_of, silent_as, act_of}
@@ -80,23 +80,7 @@ settled_low d f l = sym (settled_else d f (λ e. omega (arith, l, e)) (λ e. ome
 -- what is written is below the questions, and neither it nor a fault is one of them
 pub act_small : (a : Act) → act_number a < act.questions
 act_small Sign = omega arith
-act_small Letter = omega arith
-act_small SeparatedLetter = omega arith
-act_small CapitalAlone = omega arith
-act_small FirstOfCapitals = omega arith
-act_small CapitalOfMany = omega arith
-act_small FirstOfNumber = omega arith
-act_small Digit = omega arith
-act_small PointInside = omega arith
-act_small PointAfter = omega arith
-act_small FirstOfForm = omega arith
-act_small LowerDigit = omega arith
-act_small StopOfOrdinal = omega arith
-act_small FeminineMark = omega arith
-act_small BarOfFraction = omega arith
-act_small DigitUnder = omega arith
-act_small TheHyphen = omega arith
-act_small TheDash = omega arith
+act_small a = omega arith
 
 pub fault_great : (x : Fault) → act.questions ≤ fault_number x
 fault_great NoSign = omega arith

@@ -1,5 +1,5 @@
 -- What is done at a place: a deed. In order: the ways of writing; the deeds that are a way of writing and the state after it, in one number; the
--- questions, which what follows decides; the faults. The code's constants are these (src/lib.rt). Assumes nothing.
+-- questions, which what follows decides; the faults. Which name of the code has which of them: specs/Numbers.antt. Assumes nothing.
 use Rattle.std.specs.Prelude.{ℕ, ◌+◌, ◌*◌}
 use Rattle.entries.specs.States.{free, capitals, mixed, number, lowered, ordinal, barred, under, guarded, hyphened, dashed}
 

@@ -4,7 +4,7 @@ use Rattle.deeds.specs.Acts as act
 use Rattle.deeds.specs.declared.Way.{Way}
 use Rattle.deeds.specs.declared.Way.TheVariants.{Bare, OneCapital, AllCapitals, Separated, FirstDigit, FirstLower, Lower, Silent}
 use Rattle.deeds.specs.declared.Act.{Act}
-use Rattle.deeds.specs.declared.Act.TheVariants.{Sign, Letter, SeparatedLetter, CapitalAlone, FirstOfCapitals, CapitalOfMany, FirstOfNumber, Digit, PointInside, PointAfter, FirstOfForm, LowerDigit, StopOfOrdinal, FeminineMark, BarOfFraction, DigitUnder, TheHyphen, TheDash}
+use Rattle.deeds.specs.declared.Act.TheVariants.{Sign, Letter, SeparatedLetter, CapitalAlone, FirstOfCapitals, CapitalOfMany, FirstOfNumber, Digit, FirstOfForm, LowerDigit, StopOfOrdinal, FeminineMark, BarOfFraction, DigitUnder, TheHyphen, TheDash}
 use Rattle.deeds.specs.declared.Question.{Question}
 use Rattle.deeds.specs.declared.Question.TheVariants.{BeginsRun, BeginsNumber, NumberPoint, OneUnder}
 use Rattle.deeds.specs.declared.Fault.{Fault}
@@ -31,8 +31,6 @@ act_number FirstOfCapitals = act.first_of_capitals
 act_number CapitalOfMany = act.capital_of_many
 act_number FirstOfNumber = act.first_of_number
 act_number Digit = act.digit
-act_number PointInside = act.point_inside
-act_number PointAfter = act.point_after
 act_number FirstOfForm = act.first_of_form
 act_number LowerDigit = act.lower_digit
 act_number StopOfOrdinal = act.stop_of_ordinal

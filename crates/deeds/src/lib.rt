@@ -1,6 +1,7 @@
 // What is done at a place of a text, by its state and the class of its code point, as a table (`table`); and the ways of writing, the deeds, the questions
-// and the faults, by name. A question is decided by what follows: crates/turns.
-// A new state or class is added in tools/deeds.txt; a new deed is a name here and in specs/Acts.antt and specs/Numbers.antt, and a line of tools/deeds.txt.
+// and the faults, by name. A question is decided by what follows: crates/turns. The same by numbers: src/numbers.rt.
+// A new state or class is added in tools/deeds.txt; a new deed is a name here and in specs/Acts.antt and specs/Numbers.antt, and a line of tools/deeds.txt; a new
+// state, class, question or fault has its number in src/numbers.rt too.
 #![tactic(auto)]
 
 ghost use Rattle.std.specs.Prelude.{◌≡◌, ◌/◌, ◌%◌};
@@ -10,8 +11,13 @@ ghost use Rattle.deeds.specs.Numbers.{way_index, act_number};
 
 use entries::State;
 
+mod numbers;
 mod table;
 
+pub use numbers::{
+    BEGINS_NUMBER, BEGINS_RUN, NO_SIGN, NUMBER_POINT, ONE_UNDER, OUTSIDE_FORM, QUESTIONS,
+    SHARES_CELLS, WAYS, deed_by_number,
+};
 pub use table::deed_of;
 
 // The ways of writing: its own cells; after 46; after 46-46; after 5; after 3456; the lower digit after 3456; the lower digit; no cell, though
@@ -28,7 +34,7 @@ pub enum Way {
     Silent,
 }
 
-// What is written: a way of writing and the state after it.
+// What is written: a way of writing and the state after it. No two are the same way and state, so an act is known by its number (proofs/Unique.antt).
 #[derive(Clone, Copy, PartialEq, Eq)]
 pub enum Act {
     Sign,
@@ -39,8 +45,6 @@ pub enum Act {
     CapitalOfMany,
     FirstOfNumber,
     Digit,
-    PointInside,
-    PointAfter,
     FirstOfForm,
     LowerDigit,
     StopOfOrdinal,
@@ -77,6 +81,11 @@ pub enum Deed {
 }
 
 impl Act {
+    // A point or comma inside a number is written as a digit is, and one that ends it as ª is: each is one value under two names.
+    pub const POINT_INSIDE: Act = Act::Digit;
+
+    pub const POINT_AFTER: Act = Act::FeminineMark;
+
     // How it is written.
     pub fn way(self) -> Way
         ensures { way_index result ≡ act_number self % ways }
@@ -101,8 +110,8 @@ impl Act {
             Act::Sign => State::Free,
             Act::Letter | Act::SeparatedLetter | Act::CapitalAlone => State::Mixed,
             Act::FirstOfCapitals | Act::CapitalOfMany => State::Capitals,
-            Act::FirstOfNumber | Act::Digit | Act::PointInside => State::Number,
-            Act::PointAfter | Act::FeminineMark => State::Guarded,
+            Act::FirstOfNumber | Act::Digit => State::Number,
+            Act::FeminineMark => State::Guarded,
             Act::FirstOfForm | Act::LowerDigit => State::Lowered,
             Act::StopOfOrdinal => State::Ordinal,
             Act::BarOfFraction => State::Barred,

@@ -1,5 +1,5 @@
 -- Where a place stands, as far as the way of writing it depends on what stands before and ahead: the states of the transcriber, by number.
--- The code's constants are these (src/lib.rt). What a state means in the rules' words is `Stages.stage_at` of the crate `deeds`.
+-- Which name of the code has which number: specs/Numbers.antt. What a state means in the rules' words is `Stages.stage_at` of the crate `deeds`.
 -- Assumes nothing.
 use Rattle.std.specs.Prelude.{ℕ}
 

@@ -78,6 +78,8 @@ const THIRD: u64 = SIGN * 16384;
 
 const THEN: u64 = 1152921504606846976; // the state after it where it is written as usual: the highest, so that nothing is above it
 
+const WORD_BITS: usize = 64;
+
 // A code point's word. It has a class and leads to a state: no word has another number there.
 #[derive(Clone, Copy)]
 pub struct Entry {
@@ -95,6 +97,57 @@ pub fn entry_of(point: u32) -> Entry
     }
 }
 
+// The fields of any word, states, classes and marks by their numbers. (`Entry` has those of a code point's word, by name.)
+
+// Is it written as usual in this state: with its own cells alone? A pair mark never is. (A state is below 16, so that the remainder is the state.)
+pub fn is_usual(entry: u64, state: usize) -> bool
+    ensures { result ≡ usual_in entry state }
+{
+    (entry >> (state % WORD_BITS)) % 2 == 1
+}
+
+// The state after it where it is written as usual.
+pub fn then_in(entry: u64) -> usize
+    ensures { result ≡ then_in entry }
+{
+    (entry / THEN) as usize
+}
+
+// Its own cells, with their count. The state after it stays above them, where nothing that reads a sign looks.
+pub fn sign_in(entry: u64) -> u32
+    ensures { result ≡ sign_in entry }
+{
+    (entry / SIGN) as u32
+}
+
+// The first of them.
+pub fn first_in(entry: u64) -> u8
+    ensures { result ≡ first_in entry }
+{
+    (entry / FIRST % CELL_PLACES) as u8
+}
+
+// The cell of a lower digit; 0 where it is no digit.
+pub fn lower_in(entry: u64) -> u8
+    ensures { result ≡ lower_in entry }
+{
+    (entry / LOWER % CELL_PLACES) as u8
+}
+
+// Its class.
+pub fn class_in(entry: u64) -> usize
+    ensures { result ≡ class_in entry }
+{
+    (entry / CLASS % CLASS_PLACES) as usize
+}
+
+// 0 for no pair mark; 2k + 1 for the opener of kind k, 2k + 2 for its closer.
+pub fn mark_in(entry: u64) -> usize
+    ensures { result ≡ mark_in entry }
+{
+    (entry / MARK % MARK_PLACES) as usize
+}
+
 impl Entry {
     // Is it written as usual in this state: with its own cells alone? A pair mark never is.
     pub fn is_usual(self, state: State) -> bool
@@ -107,7 +160,7 @@ impl Entry {
     pub fn then(self) -> State
         ensures { state_number result ≡ then_in self.word }
     {
-        match self.word / THEN {
+        match then_in(self.word) {
             0 => State::Free,
             1 => State::Capitals,
             2 => State::Mixed,
@@ -127,28 +180,28 @@ impl Entry {
     pub fn sign(self) -> u32
         ensures { result ≡ sign_in self.word }
     {
-        (self.word / SIGN) as u32
+        sign_in(self.word)
     }
 
     // The first of them.
     pub fn first(self) -> u8
         ensures { result ≡ first_in self.word }
     {
-        (self.word / FIRST % CELL_PLACES) as u8
+        first_in(self.word)
     }
 
     // The cell of a lower digit; 0 where it is no digit.
     pub fn lower(self) -> u8
         ensures { result ≡ lower_in self.word }
     {
-        (self.word / LOWER % CELL_PLACES) as u8
+        lower_in(self.word)
     }
 
     // Its class.
     pub fn class(self) -> Class
         ensures { class_index result ≡ class_in self.word }
     {
-        match self.word / CLASS % CLASS_PLACES {
+        match class_in(self.word) {
             0 => Class::AToJ,
             1 => Class::OtherSmall,
             2 => Class::Capital,
@@ -172,9 +225,9 @@ impl Entry {
     pub fn mark(self) -> Option<usize>
         ensures { result ≡ mark_told (mark_in self.word) }
     {
-        match self.word / MARK % MARK_PLACES {
+        match mark_in(self.word) {
             0 => None,
-            mark => Some(mark as usize),
+            mark => Some(mark),
         }
     }
 }

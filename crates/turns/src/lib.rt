@@ -1,7 +1,7 @@
 // What follows a place of a text, as far as a question of the table (crates/deeds) asks for it, and the deed once what follows has decided.
 // Read ahead is only where a run, a number or a denominator begins and after a point of a number; a state carries what was found.
 // A search finds a place and no more, and what stands there is read anew: so the caller's loop keeps no counter for it (docs/DECISIONS.md, 30).
-// A new question is an arm of `answered`. A new capital is also a pattern of `is_capital`.
+// A new question is an arm of `answered` and one of `settled_by_number`. A new capital is also a pattern of `is_capital`.
 #![tactic(auto)]
 
 ghost use Rattle.std.specs.Prelude.{◌≡◌, get_or};
@@ -13,7 +13,7 @@ ghost use Rattle.deeds.specs.Numbers.{question_number, deed_number, answer_numbe
 ghost use Rattle.deeds.specs.Stages.{Supposed};
 ghost use Rattle.turns.specs.Ahead.{is_capital, future_at, ends_form};
 
-use deeds::{Act, Deed, Fault, Question};
+use deeds::{Act, BEGINS_NUMBER, BEGINS_RUN, Deed, Fault, NUMBER_POINT, ONE_UNDER, Question};
 
 // The code points that reading ahead knows.
 const DIGIT_0: u32 = 0x30; // 0
@@ -108,8 +108,8 @@ fn answered(text: &[u32], next: usize, question: Question) -> Result<Act, Fault>
         Question::BeginsRun => Ok(Act::CapitalAlone),
         Question::BeginsNumber if form_follows(text, next) => Ok(Act::FirstOfForm),
         Question::BeginsNumber => Ok(Act::FirstOfNumber),
-        Question::NumberPoint if digit_follows(text, next) => Ok(Act::PointInside),
-        Question::NumberPoint => Ok(Act::PointAfter),
+        Question::NumberPoint if digit_follows(text, next) => Ok(Act::POINT_INSIDE),
+        Question::NumberPoint => Ok(Act::POINT_AFTER),
         Question::OneUnder if digit_follows(text, next) => Ok(Act::DigitUnder),
         Question::OneUnder => Err(Fault::SharesCells),
     }
@@ -123,5 +123,28 @@ pub fn settled(text: &[u32], next: usize, deed: Deed) -> Result<Act, Fault>
         Deed::Write(act) => Ok(act),
         Deed::Ask(question) => answered(text, next, question),
         Deed::Refuse(fault) => Err(fault),
+    }
+}
+
+// The number of an answer: of what is written, or of the fault.
+fn number_of(answer: Result<Act, Fault>) -> usize
+    ensures { result ≡ answer_number answer }
+{
+    match answer {
+        Ok(act) => Deed::Write(act).number(),
+        Err(fault) => Deed::Refuse(fault).number(),
+    }
+}
+
+// The same of a deed by its number. A number that is no question's is handed back.
+pub fn settled_by_number(text: &[u32], next: usize, deed: usize) -> usize
+    ensures { Supposed deed (future_at castilian text.now next) result }
+{
+    match deed {
+        BEGINS_RUN => number_of(answered(text, next, Question::BeginsRun)),
+        BEGINS_NUMBER => number_of(answered(text, next, Question::BeginsNumber)),
+        NUMBER_POINT => number_of(answered(text, next, Question::NumberPoint)),
+        ONE_UNDER => number_of(answered(text, next, Question::OneUnder)),
+        _ => deed,
     }
 }
