@@ -19,7 +19,7 @@ use Rattle.desk.specs.Shows.{shown_of, Shows, read_of, ShowsRead}
 use Rattle.utf8.specs.Decoding.{decoded, Decoded}
 use Rattle.utf8.proofs.Decoding.{all_laid, all_points}
 use Rattle.printing.specs.Printed.{pattern_of, Prints}
-use Rattle.printing.proofs.Printed.{prints_as}
+use Rattle.printing.proofs.Printed.{prints_within, prints_as}
 use Rattle.patterns.specs.Patterns.{row_of, ShowsRow}
 use Rattle.patterns.proofs.Patterns.{row_is}
 use Rattle.printouts.specs.Lines.{TranscribePrints, ReadPrints, row_reply, text_reply, shown_reply}
@@ -95,16 +95,25 @@ module _ (line points row : List ℕ) (count : ℕ) (points' row' : List ℕ) (s
   pub cells_told : Told s row'
   cells_told = line_told.0
 
-  pub ends_transcribed : (out : List ℕ) (r : ℕ) (out' : List ℕ) → Prints out 0 (shown_reply pattern_of s row') r out'
-      → TranscribesLine line points row out r points' row' out'
-  ends_transcribed out r out' p = record {
-    decoding = all_laid line points count points' room d few;
-    shown = s;
-    transcribing = shows_line;
-    printed = row_reply s.number s.second row';
-    right = line_told.1;
-    prints = prints_as out 0 (shown_reply pattern_of s row') (row_reply s.number s.second row') r out' (row_replied s row') p;
-  }
+  pub ends_transcribed : (out : List ℕ) (r : ℕ) (out' : List ℕ) → Prints out 0 (row_reply s.number s.second row') r out'
+      → TranscribesLine line points row out r points' row' out' × (r ≤ length out')
+  ends_transcribed out r out' p = (
+    record {
+      decoding = all_laid line points count points' room d few;
+      shown = s;
+      transcribing = shows_line;
+      printed = row_reply s.number s.second row';
+      right = line_told.1;
+      prints = p;
+    },
+    prints_within out 0 (row_reply s.number s.second row') r out' p (omega arith),
+  )
+
+  -- the same of what `reply` prints: of cells it is the reply of a row
+  pub ends_row_replied : (out : List ℕ) (r : ℕ) (out' : List ℕ) → Prints out 0 (shown_reply pattern_of s row') r out'
+      → TranscribesLine line points row out r points' row' out' × (r ≤ length out')
+  ends_row_replied out r out' p =
+      ends_transcribed out r out' (prints_as out 0 (shown_reply pattern_of s row') (row_reply s.number s.second row') r out' (row_replied s row') p)
 
 -- THE ENDS OF `read_line`
 module _ (line points row text : List ℕ) (cells : ℕ) (points' row' text' : List ℕ) (s : Shown) (w : ShowsRow line points row cells points' row')
@@ -118,14 +127,23 @@ module _ (line points row text : List ℕ) (cells : ℕ) (points' row' text' : L
   pub text_told : Told s text'
   text_told = row_told.0
 
-  pub ends_read : (out : List ℕ) (r : ℕ) (out' : List ℕ) → Prints out 0 (shown_reply (λ (point : ℕ). point) s text') r out'
-      → ReadsLine line points row text out r points' row' text' out'
-  ends_read out r out' p = record {
-    decoding = w.decoding;
-    cells = w.cells;
-    shown = s;
-    reading = shows_row;
-    printed = text_reply s.number s.second text';
-    right = row_told.1;
-    prints = prints_as out 0 (shown_reply (λ (point : ℕ). point) s text') (text_reply s.number s.second text') r out' (text_replied s text') p;
-  }
+  pub ends_read : (out : List ℕ) (r : ℕ) (out' : List ℕ) → Prints out 0 (text_reply s.number s.second text') r out'
+      → ReadsLine line points row text out r points' row' text' out' × (r ≤ length out')
+  ends_read out r out' p = (
+    record {
+      decoding = w.decoding;
+      cells = w.cells;
+      shown = s;
+      reading = shows_row;
+      printed = text_reply s.number s.second text';
+      right = row_told.1;
+      prints = p;
+    },
+    prints_within out 0 (text_reply s.number s.second text') r out' p (omega arith),
+  )
+
+  -- the same of what `reply` prints: of code points it is the reply of a text
+  pub ends_text_replied : (out : List ℕ) (r : ℕ) (out' : List ℕ) → Prints out 0 (shown_reply (λ (point : ℕ). point) s text') r out'
+      → ReadsLine line points row text out r points' row' text' out' × (r ≤ length out')
+  ends_text_replied out r out' p =
+      ends_read out r out' (prints_as out 0 (shown_reply (λ (point : ℕ). point) s text') (text_reply s.number s.second text') r out' (text_replied s text') p)

@@ -36,6 +36,7 @@ fn later_byte(bits: u32) -> u8
 }
 
 // Whether UTF-8 has bytes for a number: Unicode's scalar values, all code points but the surrogates.
+#[tactic(auto, using(crate::proofs::Encoding::is_char))]
 fn is_scalar(point: u32) -> bool
     ensures { result ≡ is_scalar point }
 {

@@ -13,7 +13,7 @@ use std::io::{self, ErrorKind, Read, Stdin, Stdout, Write};
 // So many bytes are asked for at once.
 const CHUNK: usize = 65536;
 
-// What ends a program before its input has ended, and is told: a read that failed, or a write. An output that nobody reads any more is none (`IsTold`).
+// What ends a program before its input has ended: a read that failed, or a write. It is told, unless nobody reads the output any more (`IsTold`): `run` makes that no failure.
 #[derive(Drop)]
 pub enum Failure {
     Input(io::Error),

@@ -4,7 +4,7 @@ use mathlib.Core.Bool.{Bool, true, false}
 use mathlib.Core.List.{List, [], ◌∷◌, ◌++◌, append_assoc}
 use mathlib.Core.Logic.{⊎_elim, ◌↔◌}
 use mathlib.Core.Path.{◌≡◌, refl, sym, ap, ◌∙◌}
-use Prim.Native.Nat.{ℕ, zero, suc, ◌+◌, ◌-◌, ◌≤◌, ◌<◌}
+use Prim.Native.Nat.{ℕ, zero, suc, ◌+◌, ◌-◌, ◌≤◌, ◌<◌, min}
 use native.Mathlib.Numerals.{add-one}
 use native.Mathlib.Omega.{arith}
 use lib.Dec.{ltb}
@@ -17,9 +17,9 @@ use Rattle.std.specs.Option.{UnwrapsOrElse}
 use Rattle.std.specs.Slice.{IsGetRangeResult}
 use Rattle.rows.specs.Laid.{laid}
 use Rattle.lines.specs.Lines.{line_end}
-use Rattle.lines.specs.Held.{part_of, held_by, filled, Keeps, TakesIn, Holds, is_long}
+use Rattle.lines.specs.Held.{part_of, passed, held_by, filled, Keeps, TakesIn, Moves, Holds, is_long}
 use Rattle.lines.specs.declared.Taken.{Taken}
-use Rattle.lines.proofs.Ends.{part_end, ends_end, passed_end, part_on, ends_on, passed_on}
+use Rattle.lines.proofs.Ends.{end_or_not, part_end, ends_end, passed_end, part_on, ends_on, passed_on}
 
 -- THE ROOM
 pub filled_none : (l : List ℕ) (n : ℕ) → filled l n [] ≡ l
@@ -114,6 +114,28 @@ module _ (bytes : List ℕ) (from : ℕ) (r : Option (Bor (List ℕ))) (left : B
           rw (left_more, part_on (get_or rest k 0) (drop (from + (k + 1)) bytes) n)
           (keeps_on room held (get_or rest k 0 ∷ []) h kept (part_of (drop (from + (k + 1)) bytes)) t.held new q p.keeps);
     }
+
+-- WHAT OF THE PROMISE A LOOP NEEDS: of some bytes at least one is passed, and never more than there are
+passed_le : (bs : List ℕ) → passed bs ≤ length bs
+passed_le [] = omega arith
+passed_le (b ∷ bs) =
+    ⊎_elim (λ e. rw (passed_end b bs e) (omega arith)) (λ n. rw (passed_on b bs n) (omega (arith, passed_le bs))) (end_or_not b)
+
+passed_some : (bs : List ℕ) → min 1 (length bs) ≤ passed bs
+passed_some [] = omega arith
+passed_some (b ∷ bs) = ⊎_elim (λ e. rw (passed_end b bs e) (omega arith)) (λ n. rw (passed_on b bs n) (omega arith)) (end_or_not b)
+
+module _ (bytes : List ℕ) (from : ℕ) (room : List ℕ) (held : ℕ) (t : Taken) (new : List ℕ) (p : TakesIn bytes from room held t new) where
+  pub moves_of : Moves bytes from room t new
+  moves_of =
+      let few = passed_le (drop from bytes) in
+      let some = passed_some (drop from bytes) in
+      let left = length-drop from bytes in
+      record {
+        on = omega (arith, p.next);
+        within = omega (arith, p.next);
+        same = keeps_length room held (part_of (drop from bytes)) t.held new p.keeps;
+      }
 
 -- ONE OUTCOME
 pub taken_same :

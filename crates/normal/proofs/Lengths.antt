@@ -47,7 +47,7 @@ module _ (p : Text) where
         rw (lt-leb (length (normal_of p)) (length lent) k, and_false (leb (length (normal_of p)) longest_text)) (ap (λ (k : ℕ). Err (no_room k)) is_n, refl)
 
     module _ (short : n ≤ longest_text) where
-      length_is : n ≡ length (normal_of p)
+      pub length_is : n ≡ length (normal_of p)
       length_is = is_n ∙ reported_short (length (normal_of p)) (omega (arith, is_n))
 
       pub copied : n ≤ length lent → (r : ℕ) (new : List ℕ) → r ≡ length (normal_of p) → new ≡ laid (normal_of p) lent → Answered (Ok r) new

@@ -167,7 +167,7 @@ module _ (tb : Table) (h : Held tb) (text signs₁ : List ℕ) (begun counted fr
           is_then : s ≡ then_of here
           is_then = is_s ∙ h.words.then_is (get_or text i 0)
 
-      under_capital : state ≡ mixed → class_in e ≡ class_number capital → w ≡ sign_by act.one_capital_way e → k ≡ 2
+      pub under_capital : state ≡ mixed → class_in e ≡ class_number capital → w ≡ sign_by act.one_capital_way e → k ≡ 2
           → Under tb text signs₁ new begun counted from state count (i + 1)
       unfolding mark_number
       under_capital is_mixed capital_is is_w is_k =

@@ -1,4 +1,4 @@
--- The ends of `fitted` and of `transcribe_by`, over plain values: what the first pass finds is fitted or refused. For any table. Assumes nothing.
+-- The ends of `fitted` and of `transcribe_with`, over plain values: what the first pass finds is fitted or refused. For any table. Assumes nothing.
 use mathlib.Core.Path.{◌≡◌, refl, ap, ◌∙◌}
 use mathlib.Core.List.{List}
 use Prim.Native.Nat.{ℕ, ◌≤◌, ◌<◌}
@@ -39,7 +39,7 @@ module _ (tb : Table) (t : Text) where
   measured_cells n e = shown_cells (verdict_of tb t) (length (whole_row tb t)) n e
 
   module _ (lent : List ℕ) where
-    -- the ends of `transcribe_by`
+    -- the ends of `transcribe_with`
     pub measured_fitted : (n : ℕ) (r : Row) (a : Answer) (new : List ℕ) → Ok n ≡ measured_of tb t → r ≡ whole_row tb t
         → (a ≡ fitted_by (Ok n) (length lent)) × (new ≡ written_by (Ok n) r lent) → (a ≡ answer_of tb t (length lent)) × (new ≡ out_of tb t lent)
     unfolding answer_of out_of

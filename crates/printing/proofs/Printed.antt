@@ -86,6 +86,14 @@ pub page_line : (out : List ℕ) (first : Page) (x : List ℕ) (last : Page) (ne
     → first.out.now ≡ out → first.at ≡ 0 → new ≡ last.out.now → PagePrints first x last → Prints out 0 x last.at new
 page_line out first x last new e f g p = rw g (subst (λ (l : List ℕ). Prints l 0 x last.at last.out.now) e (subst (λ (k : ℕ). Prints first.out.now k x last.at last.out.now) f p.prints))
 
+-- its first part, at the front of what is lent; and its last, in what is lent as the page leaves it
+pub page_first : (out : List ℕ) (first : Page) (x : List ℕ) (next : Page)
+    → first.out.now ≡ out → first.at ≡ 0 → PagePrints first x next → Prints out 0 x next.at next.out.now
+page_first out first x next e f p = page_line out first x next next.out.now e f refl p
+
+pub page_last : (page : Page) (x : List ℕ) (last : Page) (new : List ℕ) → new ≡ last.out.now → PagePrints page x last → Prints page.out.now page.at x last.at new
+page_last page x last new e p = rw e p.prints
+
 -- BETWEEN TWO PARTS of a whole that a loop prints: what is still to come, printed from here on, makes the whole
 abbrev pub Mid : Page → List ℕ → List ℕ → Page → Type 0
 Mid old all rest now = (new : Page) → PagePrints now rest new → PagePrints old all new

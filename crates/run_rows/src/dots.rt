@@ -60,7 +60,7 @@ fn tell_line(rt: &impl Print, line: &[u8]) -> io::Result<()> {
         return say::too_long(rt);
     };
     let answer = trial::tried(rt, &row[..count], &mut text, &mut back)?;
-    let points = Points(&text[..answer.unwrap_or(0).min(TEXT_ROOM)]);
+    let points = Points(&text[..trial::written(answer).min(TEXT_ROOM)]);
     // a line of standard input may be any bytes, which `Display` cannot write
     rt.write_all(line)?;
     println!(rt; "{}{points}", Numbers(answer))

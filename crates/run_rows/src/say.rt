@@ -1,5 +1,4 @@
 // What is written to standard output, where it is more than a line of the report. A write that fails is an error, which is passed on.
-use reader::Refusal;
 use std::{fmt, io};
 
 // So many cells of a row are shown.
@@ -21,12 +20,11 @@ impl<'a> fmt::Display for Cells<'a> {
 
 // What reading a row gives, behind the row: ` -> 8 0`, the two numbers that the desk shows.
 #[derive(Clone, Copy)]
-pub struct Numbers(pub Result<usize, Refusal>);
+pub struct Numbers(pub desk::Shown);
 
 impl fmt::Display for Numbers {
     fn fmt<W: fmt::Write>(&self, f: &mut fmt::Formatter<W>) -> fmt::Result {
-        let shown = desk::read_numbers(self.0);
-        write!(f, " -> {} {}", shown.number, shown.second)
+        write!(f, " -> {} {}", self.0.number, self.0.second)
     }
 }
 

@@ -1,6 +1,5 @@
 // Every row of one cell and of two.
 use crate::{say, trial};
-use reader::Refusal;
 use std::io;
 
 // "Cells are bytes 0 to 63"
@@ -13,10 +12,11 @@ pub const SMALL_ROOM: usize = 8;
 fn has_text(rt: &impl Print, row: &[u8]) -> io::Result<bool> {
     let mut text = [trial::UNTOUCHED; SMALL_ROOM];
     let mut back = [0u8; SMALL_ROOM];
-    match trial::tried(rt, row, &mut text, &mut back)? {
-        Ok(_) => return Ok(true),
-        Err(Refusal::NoText) => {}
-        Err(_) => say::disagrees(rt, "neither read nor without a text", row)?,
+    let answer = trial::tried(rt, row, &mut text, &mut back)?;
+    match answer.number {
+        trial::DONE => return Ok(true),
+        trial::NO_TEXT => {}
+        _ => say::disagrees(rt, "neither read nor without a text", row)?,
     }
     Ok(false)
 }

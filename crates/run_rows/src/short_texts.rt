@@ -4,7 +4,7 @@ ghost use Rattle.std.specs.Prelude.{◌≤◌, length};
 use crate::short_rows::SMALL_ROOM;
 use crate::{say, trial};
 use std::io;
-use transcriber::{Refusal, transcribe};
+use transcriber::transcribe;
 
 // No code point above this has a sign.
 const LAST_POINT: u32 = 0xFFFF;
@@ -13,6 +13,9 @@ const LAST_POINT: u32 = 0xFFFF;
 const SIGNS_ROOM: usize = 160;
 
 const MOST_CELLS: usize = 2;
+
+// The number of paper 01's table for "a code point with no sign".
+const NO_SIGN: usize = 2;
 
 // The rows are numbered: those of one cell, and behind them those of two.
 const ROWS_OF_ONE: usize = 64;
@@ -25,7 +28,7 @@ const ROWS: usize = 4160;
 // normalising replaces become some that have.)
 fn has_sign(point: u32) -> bool {
     let mut row = [0u8; SMALL_ROOM];
-    !matches!(transcribe(&[point], &mut row), Err(Refusal::NoSign(_)))
+    desk::numbers(transcribe(&[point], &mut row)).number != NO_SIGN
 }
 
 // Puts the code points that have a sign at the front of `points`, as far as there is room: how many they are.
@@ -86,7 +89,8 @@ fn check_row(rt: &impl Print, row: &[u8], text: &[u32], rows: &mut [bool]) -> io
     let mut read = [trial::UNTOUCHED; SMALL_ROOM];
     let mut back = [0u8; SMALL_ROOM];
     let answer = trial::tried(rt, row, &mut read, &mut back)?;
-    if !answer.is_ok_and(|count| count <= SMALL_ROOM && is_normal_of(&read[..count], text)) {
+    let count = trial::written(answer);
+    if SMALL_ROOM < count || !is_normal_of(&read[..count], text) {
         say::disagrees(rt, "another text is read than was written", row)?;
     }
     if let Some(number) = number_of(row)
@@ -100,10 +104,9 @@ fn check_row(rt: &impl Print, row: &[u8], text: &[u32], rows: &mut [bool]) -> io
 // A text, if it is written in one cell or two.
 fn check_text(rt: &impl Print, text: &[u32], rows: &mut [bool]) -> io::Result<()> {
     let mut row = [0u8; SMALL_ROOM];
-    if let Ok(count) = transcribe(text, &mut row)
-        && count <= MOST_CELLS
-    {
-        check_row(rt, &row[..count], text, rows)?;
+    let answer = desk::numbers(transcribe(text, &mut row));
+    if answer.number == trial::DONE && answer.second <= MOST_CELLS {
+        check_row(rt, &row[..answer.second], text, rows)?;
     }
     Ok(())
 }

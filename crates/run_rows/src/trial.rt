@@ -6,6 +6,13 @@ use reader::Refusal;
 use std::io;
 use stepper::Sign;
 
+// The numbers of paper 01's table that are told apart here. An answer's numbers are those that the desk shows.
+pub const DONE: usize = 0;
+
+const NEEDS_ROOM: usize = 6;
+
+pub const NO_TEXT: usize = 8;
+
 // What every element of a lent text holds before a call: it is no code point.
 pub const UNTOUCHED: u32 = 0xFFFFFFFF;
 
@@ -17,6 +24,15 @@ const PLACES_ASKED: usize = 64;
 
 const PLACES_PAST: usize = 3;
 
+// How many code points an answer says are written.
+pub fn written(answer: desk::Shown) -> usize {
+    if answer.number == DONE {
+        answer.second
+    } else {
+        0
+    }
+}
+
 // ---- what a call leaves
 
 // Is every element of a part of the text as it was?
@@ -26,7 +42,8 @@ pub fn is_untouched(part: &[u32]) -> bool {
 
 // Does the text give just this row? It is transcribed to `back`.
 fn gives_back(text: &[u32], row: &[u8], back: &mut [u8]) -> bool {
-    transcriber::transcribe(text, back) == Ok(row.len()) && back.starts_with(row)
+    let answer = desk::numbers(transcriber::transcribe(text, back));
+    answer.number == DONE && answer.second == row.len() && back.starts_with(row)
 }
 
 // ---- steps
@@ -104,17 +121,17 @@ fn is_walked(row: &[u8], text: &[u32]) -> bool {
 }
 
 // Is a step at a place refused so? None: is it not refused?
-fn is_refused_at(row: &[u8], place: usize, asked: Option<Refusal>) -> bool {
+fn is_refused_at(row: &[u8], place: usize, asked: Option<desk::Shown>) -> bool {
     let shown = shown_there(row, place);
     let after = screen::place_after(shown, place);
     match shown {
-        Err(refusal) => asked == Some(refusal) && after == place,
+        Err(refusal) => asked == Some(desk::read_numbers(Err(refusal))) && after == place,
         Ok(_) => asked.is_none(),
     }
 }
 
 // Is the step at every place that is asked refused so?
-fn is_refused(row: &[u8], asked: Option<Refusal>) -> bool {
+fn is_refused(row: &[u8], asked: Option<desk::Shown>) -> bool {
     (0..places_of(row)).all(|place| is_refused_at(row, place, asked))
         && is_refused_at(row, FAR_BEHIND, asked)
 }
@@ -133,10 +150,10 @@ fn check_read(rt: &impl Print, row: &[u8], text: &[u32], back: &mut [u8]) -> io:
 }
 
 // A row that was refused: "A row that isn't accepted is refused as reading refuses it, but never with 6".
-fn check_refused(rt: &impl Print, row: &[u8], refusal: Refusal) -> io::Result<()> {
-    let asked = match refusal {
-        Refusal::NeedsRoom(_) => None,
-        refusal => Some(refusal),
+fn check_refused(rt: &impl Print, row: &[u8], refusal: desk::Shown) -> io::Result<()> {
+    let asked = match refusal.number {
+        NEEDS_ROOM => None,
+        _ => Some(refusal),
     };
     if !is_refused(row, asked) {
         say::disagrees(rt, "a step is refused otherwise", row)?;
@@ -150,18 +167,18 @@ pub fn tried(
     row: &[u8],
     text: &mut [u32],
     back: &mut [u8],
-) -> io::Result<Result<usize, Refusal>> {
-    let answer = reader::read(row, text);
-    let Some((text, behind)) = text.split_at_checked(answer.unwrap_or(0)) else {
+) -> io::Result<desk::Shown> {
+    let answer = desk::read_numbers(reader::read(row, text));
+    let Some((text, behind)) = text.split_at_checked(written(answer)) else {
         say::disagrees(rt, "a count above what was lent", row)?;
         return Ok(answer);
     };
     if !is_untouched(behind) {
         say::disagrees(rt, "an element behind the text is touched", row)?;
     }
-    match answer {
-        Ok(_) => check_read(rt, row, text, back)?,
-        Err(refusal) => check_refused(rt, row, refusal)?,
+    match answer.number {
+        DONE => check_read(rt, row, text, back)?,
+        _ => check_refused(rt, row, answer)?,
     }
     Ok(answer)
 }

@@ -9,10 +9,10 @@ mod points;
 mod trials;
 mod vector;
 
-use desk::{DONE, Shown};
+use desk::Shown;
 use points::{Base, number_in};
 use std::io;
-use trials::Trial;
+use trials::{DONE, Trial};
 use vector::Vector;
 
 // More than the 12,288 cells of the longest row: for a vector's print, and for its cells.

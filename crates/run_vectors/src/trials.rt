@@ -1,6 +1,11 @@
 // One vector against the desk, at several rooms. It is the export for C that is tried, so its answers are taken as that shows them: by two numbers.
-use desk::{DONE, NEEDS_ROOM, Shown};
+use desk::Shown;
 use std::io;
+
+// The number of an answer that is no refusal, and of "the answer needs more room than lent".
+pub const DONE: usize = 0;
+
+const NEEDS_ROOM: usize = 6;
 
 // The braille patterns of six dots stand from U+2800 on, in the cells' order.
 const FIRST_PATTERN: u32 = 0x2800;

@@ -6,7 +6,7 @@ use Prim.Native.Nat.{ℕ, zero, suc, ◌+◌, ◌-◌, ◌*◌, ◌≤◌, ◌<�
 use native.Mathlib.Numerals.{add-one}
 use native.Mathlib.Omega.{arith}
 use lib.Dec.{leb}
-use lib.ListN.{length, get_or, drop}
+use lib.ListN.{length, get_or, drop, drop_of_length-le}
 use lib.Seq.{drop-cons}
 use borrow.Author.Tests.{le-leb, lt-leb}
 use Rattle.std.specs.Prelude.{Option, Some, None}
@@ -14,7 +14,7 @@ use Rattle.rules.proofs.Finite.{and_false}
 use Rattle.sequences.specs.Leads.{later_form, room_of, Fitting, JoinedIs}
 
 -- bits that leave room for one byte more
-room_for : (n v : ℕ) → n ≤ 3 → 0 < n → v < room_of n → v < 0x8000
+pub room_for : (n v : ℕ) → n ≤ 3 → 0 < n → v < room_of n → v < 0x8000
 room_for zero v h k r = absurd (omega (arith, k))
 room_for (suc zero) v h k r = r
 room_for (suc (suc zero)) v h k r = omega (arith, r)
@@ -44,6 +44,10 @@ module _ (bytes : List ℕ) (n least most bits : ℕ) where
     -- all bytes have been taken
     pub mid_done : n ≤ at → JoinedIs (later_form n least most) bits bytes (Some value)
     mid_done h = let none : n - at ≡ 0 = omega (arith, h) in m.whole (Some value) (rw none (refl, refl))
+
+    -- there is no byte where one is asked for
+    pub mid_ended : (k : ℕ) → n - at ≡ suc k → length bytes ≤ at → JoinedIs (later_form n least most) bits bytes None
+    mid_ended k more h = m.whole None (rw (more, drop_of_length-le bytes {i = at} h) refl)
 
     module _ (there : at < length bytes) (all : length bytes ≡ n) where
       more : n - at ≡ suc (n - (at + 1))

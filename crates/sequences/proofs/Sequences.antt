@@ -10,9 +10,10 @@ use lib.ListN.{length, get_or, take, drop, length-drop}
 use lib.Seq.{drop-cons, length-take-le, take-take}
 use Rattle.rules.proofs.Finite.{and_false}
 use Rattle.std.specs.Prelude.{Option, Some, None, slice_range}
+use Rattle.std.specs.Option.{unwrap_or}
 use Rattle.sequences.specs.Forms.{Form, within, begin, mark_of, joined, point_of}
 use Rattle.sequences.specs.Points.{length_at, point_at, point_by}
-use Rattle.sequences.specs.Leads.{later_form, Begun, JoinedIs, NextIs}
+use Rattle.sequences.specs.Leads.{later_form, Begun, JoinedIs, SequenceIs, NextIs}
 use Rattle.encoding.specs.Encoding.{replacement}
 use Rattle.sequences.specs.declared.Lead.{Lead}
 use Rattle.sequences.specs.declared.Next.{Next}
@@ -57,6 +58,12 @@ module _ (bytes : List ℕ) (at b : ℕ) (there : at < length bytes) (byte : b �
         next = h.1 ∙ sym (ap (λ (n : ℕ). at + suc (n - 1)) none);
         inside = omega (arith, h.1, there);
       }
+
+  -- the sequence that begins here; or none does
+  pub next_here : (found : Option Next) (other r : Next) → SequenceIs bytes at found → r ≡ unwrap_or found other
+      → (other.point ≡ replacement) × (other.next ≡ at + 1) → NextIs bytes (drop at bytes) at r
+  next_here None other r s e h = subst (NextIs bytes (drop at bytes) at) (sym e) (next_outside (sym (ap length_at rest_is) ∙ s) other h)
+  next_here (Some next) other r s e h = subst (NextIs bytes (drop at bytes) at) (sym e) s
 
   module _ (n low high mark : ℕ) (begun : Begun b n low high mark) where
     -- the later bytes are not those of the sequence

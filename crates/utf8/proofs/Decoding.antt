@@ -6,7 +6,7 @@ use Prim.Native.Nat.{ℕ, zero, suc, ◌+◌, ◌-◌, ◌≤◌, ◌<◌}
 use native.Mathlib.Omega.{arith}
 use native.Mathlib.Nat.{not-suc-le-zero, zero-add}
 use lib.ListN.{length, take, drop, set, length-drop}
-use lib.Seq.{take_all, sets}
+use lib.Seq.{drop-drop, take_all, sets}
 use Rattle.rows.specs.Laid.{laid}
 use Rattle.rows.proofs.Laid.{front}
 use Rattle.rows.proofs.Stored.{stored_is}
@@ -24,6 +24,13 @@ behind (suc k) (b ∷ bs) = behind k bs
 first_on : (bs : List ℕ) → 0 < length bs → decoded bs ≡ point_at bs ∷ decoded (drop (suc (length_at bs - 1)) bs)
 first_on [] h = absurd (not-suc-le-zero h)
 first_on (b ∷ bs) h = ap (λ (t : List ℕ). point_at (b ∷ bs) ∷ t) (behind (length_at (b ∷ bs) - 1) bs)
+
+-- the same at a place of some bytes
+pub decoded_on : (bytes : List ℕ) (at next : ℕ) → 0 < length (drop at bytes) → next ≡ at + suc (length_at (drop at bytes) - 1)
+    → decoded (drop at bytes) ≡ point_at (drop at bytes) ∷ decoded (drop next bytes)
+decoded_on bytes at next h e =
+    first_on (drop at bytes) h
+    ∙ ap (λ (r : List ℕ). point_at (drop at bytes) ∷ decoded r) (drop-drop (suc (length_at (drop at bytes) - 1)) at bytes ∙ ap (λ (k : ℕ). drop k bytes) (sym e))
 
 -- what `next` gives and leaves
 pub first_decoded : (bytes : List ℕ) (r : Next) → NextIs bytes bytes 0 r → 0 < length bytes → decoded bytes ≡ r.point ∷ decoded (take (length bytes - r.next) (drop r.next bytes))

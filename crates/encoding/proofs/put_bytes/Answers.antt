@@ -1,6 +1,7 @@
--- `put_bytes`: by how many bytes it takes. Assumes nothing.
+-- `put_bytes`: by how many bytes it takes; four of them one store behind another. Assumes nothing.
+use mathlib.Core.Path.{refl}
 use native.Mathlib.Omega.{arith}
-use Rattle.encoding.proofs.Encoding.{one_byte, two_bytes, three_bytes, four_bytes, wrote_as}
+use Rattle.encoding.proofs.Encoding.{one_byte, two_bytes, three_bytes, four_bytes, wrote_as, wrote_four}
 use Rattle.encoding.proofs.put_bytes.Goals as goal
 
 pub returns-in-0-to-127 : goal.returns-in-0-to-127
@@ -15,4 +16,6 @@ returns-in-0-to-65535 c =
 
 pub returns-in_default : goal.returns-in_default
 returns-in_default c =
-    wrote_as (rw (c.later_byte-in_default.ensures, c.later_byte-in_default-2.ensures, c.later_byte-in_default-3.ensures) (four_bytes c.args.point (omega arith))) c.put-in_default.ensures
+    rw c.put-in_default.ensures.count
+    (wrote_four _ c.args.bytes.now _ _ _ _ _ _ _ _ refl refl refl c.put-in_default.ensures.stored
+    (rw (c.later_byte-in_default.ensures, c.later_byte-in_default-2.ensures, c.later_byte-in_default-3.ensures) (four_bytes c.args.point (omega arith))))
