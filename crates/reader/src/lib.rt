@@ -142,6 +142,7 @@ fn settle(row: &[u8], found: Result<Stand, NoText>, room: usize) -> Result<usize
 // Reads a row by way of a draft, which has room for any text of the row, or for the longest that is accepted. The walk is lent nothing that the caller
 // lent, so a refusal leaves that as it was. (One walk and a copy are faster than two walks, the first without room. A draft is cleared before it is used, so a
 // short row has a short one.)
+#[tactic(auto, using(crate::proofs::Copying::read_copied))]
 fn read_by<const ROOM: usize>(row: &[u8], text: &mut [u32]) -> Result<usize, Refusal>
     requires { (length row.now ≤ longest_row) × (ROOM ≤ longest_row) × (line_row < ROOM → AllCells row.now) × ((length row.now ≤ ROOM) ⊎ (longest_text ≤ ROOM)) }
     ensures { Read castilian row.now text.old result text.new }

@@ -1,15 +1,13 @@
 -- `read_by`: what the walk found is the answer (`settle`), and what it wrote to the draft, which has room, is the text (`room_text`, `written_text`). The lent
 -- text is as it was until the draft is copied to it, and behind it then (`copied_end`). Assumes nothing.
-use mathlib.Core.Path.{◌≡◌, sym, ap, ◌∙◌}
-use mathlib.Core.List.{List, ◌++◌}
+use mathlib.Core.Path.{sym, ◌∙◌}
 use Prim.Native.Nat.{ℕ}
 use native.Mathlib.Omega.{arith}
-use lib.ListN.{take, drop, length-replicate}
+use lib.ListN.{length-replicate}
 use lib.Seq.{length-take-le}
 use Rattle.std.proofs.lemmas.Result.{err_from_is_err_and}
-use Rattle.reader.proofs.Parts.{goes_same, room_text, written_text}
-use Rattle.reader.proofs.Copying.{copied_at_once, copied_end}
-use Rattle.reader.proofs.Answering.{read_not_settled, settled_text, read_text}
+use Rattle.reader.proofs.Parts.{goes_same, room_text}
+use Rattle.reader.proofs.Answering.{read_not_settled, settled_text}
 use Rattle.reader.proofs.read_by.Goals as goal
 
 -- a refusal
@@ -38,13 +36,3 @@ copy_from_slice-requires g c =
     let full = goes_same c.walk_whole-found.ensures ∙ length-replicate {A = ℕ} g.row.ROOM 0 in
     length-take-le c.in_ok-count.count c.args.text.now (omega (arith, t.1, t.3))
     ∙ sym (length-take-le c.in_ok-count.count c.walk_whole-found.new.draft (omega (arith, t.1, room_text t.2 g.row.ROOM c.requires.3, full)))
-
-pub returns : goal.returns
-returns g c =
-    let t = settled_text c.args.row.now c.in_ok-count.ensures in
-    let wrote = written_text c.walk_whole-found.ensures t.0 t.2.reads (omega (arith, room_text t.2 g.row.ROOM c.requires.3, length-replicate {A = ℕ} g.row.ROOM 0)) in
-    let copied : c.copy_from_slice.new.self ≡ t.0 = c.copy_from_slice.ensures.after ∙ ap (λ (n : ℕ). take n c.walk_whole-found.new.draft) t.1 ∙ wrote in
-    read_text c.args.row.now t.0 t.1 t.2 c.args.text.now _
-    (ap (λ (x : List ℕ). x ++ drop c.in_ok-count.count c.args.text.now) copied ∙ ap (λ (n : ℕ). t.0 ++ drop n c.args.text.now) t.1
-    ∙ copied_end t.3 (copied_at_once t.0 c.args.text.now) (omega arith))
-    t.3
