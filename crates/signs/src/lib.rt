@@ -522,7 +522,7 @@ pub fn owed_at(row: &[u8], at: usize, opened: usize) -> Option<Step>
 }
 
 // May a text end in this mode: is what was begun whole?
-#[tactic(auto, unfolding(rules::proofs::Machine::at_rest))]
+#[tactic(auto, using(crate::proofs::Cases::at_rest_there), unfolding(rules::proofs::Machine::at_rest))]
 pub fn rests(mode: Mode) -> bool
     ensures { result ≡ at_rest (mode_of (number_of mode)) }
 {

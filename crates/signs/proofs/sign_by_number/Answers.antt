@@ -1,7 +1,7 @@
 -- `sign_by_number`: the deed is that of the number's last four bits (`deed_same`); of what it asks, that of a capital alone hangs on the mode (`number_same`, and `mode_before`). Assumes nothing.
 use mathlib.Core.Bool.{false}
 use mathlib.Core.List.{List}
-use mathlib.Core.Path.{◌≡◌, refl, sym, ap, ◌∙◌}
+use mathlib.Core.Path.{◌≡◌, refl, ap, ◌∙◌}
 use Prim.Native.Nat.{ℕ, ◌+◌, ◌%◌}
 use native.Mathlib.Omega.{arith}
 use Rattle.readings.specs.Modes.{number_of, mode_at}
