@@ -180,13 +180,14 @@ $1 == "two" { dots[$5] = $2; if ($5 + 1 > count) count = $5 + 1 }
 END { for (n = 0; n < count; n++) { print "const BEHIND_" dots[n] ": u64 = 1 << (" n " * POINT_BITS);"; print "" } }'
 
 cat <<'TEXT'
-// What a cell is as the second of a sign of two. Of a pair mark the opener stands for both.
-static SECOND_WORDS: [u64; CELLS] = [
+// What a byte is as the second of a sign of two. Of a pair mark the opener stands for both. (Each byte has a place in this table too, so that at a sign of two nothing is asked first.)
+static SECOND_WORDS: [u64; BYTES] = [
 TEXT
 printf '%s\n' "$cells" | awk -F '\t' '
 $1 == "two" { before = $6 in word ? word[$6] " + " : ""; word[$6] = before "BEHIND_" $2 " * " $4; said[$6] = said[$6] " " $7; next }
 { dots[$1] = $2 }
 END { for (c = 0; c < 64; c++) print "    " (c in word ? word[c] : "NOTHING") ", // " dots[c] (c in word ? ":" said[c] : "") }'
+awk 'BEGIN { for (byte = 64; byte < 256; byte++) print "    NOTHING," (byte == 64 ? " // no cells any more" : "") }'
 echo '];'
 
 cat <<'TEXT'
@@ -194,6 +195,6 @@ cat <<'TEXT'
 pub fn second_word(cell: u8) -> u64
     ensures { result ≡ second_of cell }
 {
-    looked_up(&SECOND_WORDS, cell)
+    SECOND_WORDS[cell as usize]
 }
 TEXT

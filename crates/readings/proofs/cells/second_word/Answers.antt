@@ -1,5 +1,4 @@
 -- `cells::second_word`: the table has for each byte what it is as the second of a sign of two. Assumes nothing.
-use mathlib.Core.Path.{◌∙◌}
 use native.Mathlib.Omega.{arith}
 use Rattle.readings.specs.declared.cells.TheConstants.{SECOND_WORDS}
 use Rattle.readings.specs.Words.{seconds, second_of}
@@ -8,4 +7,4 @@ use Rattle.readings.proofs.cells.second_word.Goals as goal
 
 pub returns : goal.returns
 unfolding seconds
-returns c = c.looked_up.ensures ∙ table_told SECOND_WORDS second_of 256 tt c.args.cell (omega (arith, c.ranges.cell.fits))
+returns c = table_told SECOND_WORDS second_of 256 tt c.args.cell (omega (arith, c.ranges.cell.fits))
