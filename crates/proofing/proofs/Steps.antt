@@ -4,9 +4,9 @@ use mathlib.Core.Path.{◌≡◌, refl, sym, ap, ◌∙◌, subst}
 use mathlib.Core.List.{List, [], ◌∷◌, ◌++◌}
 use mathlib.Core.Logic.{◌⊎◌, inl, inr}
 use mathlib.Core.Option.{some}
-use Prim.Native.Nat.{ℕ}
+use Prim.Native.Nat.{ℕ, ◌≤◌}
 use native.Mathlib.Omega.{arith}
-use lib.ListN.{take}
+use lib.ListN.{length, take}
 use Rattle.rules.specs.Cells.{Row, print}
 use Rattle.rules.specs.Castilian.{castilian}
 use Rattle.rules.specs.Rows.{signs_of}
@@ -25,7 +25,7 @@ use Rattle.desk.specs.Shows.{read_of, points_of, sign_of, ShowsSign}
 use Rattle.printing.specs.Printed.{Prints}
 use Rattle.printing.specs.declared.Page.{Page}
 use Rattle.printing.specs.Pages.{PagePrints}
-use Rattle.printing.proofs.Printed.{prints_as, page_on, page_line}
+use Rattle.printing.proofs.Printed.{prints_as, prints_on, prints_within, page_first, page_last}
 use Rattle.replies.specs.Replies.{line_end, refusal_line}
 use Rattle.patterns.specs.Patterns.{ShowsRow}
 use Rattle.patterns.proofs.Patterns.{row_is}
@@ -86,25 +86,33 @@ module _ (r : Row) (n : ℕ) where
 
 -- THE ENDS OF `steps_line`: n cells of `row` are those of the line
 module _ (line points row out points' row' : List ℕ) (n : ℕ) (shown : ShowsRow line points row n points' row') where
-  ended : (p : List ℕ) → StepsPrints line p → (r : ℕ) (out' : List ℕ) → Prints out 0 p r out' → StepsLine line points row out r points' row' out'
-  ended p right r out' prints = record { decoding = shown.decoding; cells = shown.cells; printed = p; right = right; prints = prints }
+  ended : (p : List ℕ) → StepsPrints line p → (r : ℕ) (out' : List ℕ) → Prints out 0 p r out'
+      → StepsLine line points row out r points' row' out' × (r ≤ length out')
+  ended p right r out' prints = (
+    record { decoding = shown.decoding; cells = shown.cells; printed = p; right = right; prints = prints },
+    prints_within out 0 p r out' prints (omega arith),
+  )
 
   pub ends_refused : (g : desk.Sign) → ShowsSign castilian (take n row') 0 g → (g.number ≡ 0 → ⊥)
-      → (r : ℕ) (out' : List ℕ) → Prints out 0 (refusal_line g.number g.second) r out' → StepsLine line points row out r points' row' out'
+      → (r : ℕ) (out' : List ℕ) → Prints out 0 (refusal_line g.number g.second) r out' → StepsLine line points row out r points' row' out' × (r ≤ length out')
   ends_refused g h not_nought r out' p =
       let x = refused_by (take n row') 0 g h not_nought in
       ended (refusal_line (number_of x.refusal) (second_of x.refusal))
       (prints_refusal x.refusal (subst (λ (k : Row). RowRefused castilian k x.refusal) (row_is line points row n points' row' shown) x.right)) r out'
       (prints_as out 0 _ _ r out' (ap (λ (k : ℕ). refusal_line k g.second) x.number ∙ ap (refusal_line (number_of x.refusal)) x.second) p)
 
-  -- the page from its front: `ok`, the signs, the end
-  pub ends_accepted : (p q s t : Page) (out' : List ℕ) → p.out.now ≡ out → p.at ≡ 0 → out' ≡ t.out.now
-      → PagePrints p (print "ok") q → s.out.ghost_name ≡ q.out.ghost_name → SignsPrinted (take n row') q.out.now q.at s.at s.out.now → PagePrints s (line_end ∷ []) t
-      → StepsLine line points row out t.at points' row' out'
-  ends_accepted p q s t out' lent front left first same signs last =
+  pub ends_accepted : (a : ℕ) (la : List ℕ) (b : ℕ) (lb : List ℕ) (r : ℕ) (out' : List ℕ)
+      → Prints out 0 (print "ok") a la → SignsPrinted (take n row') la a b lb → Prints lb b (line_end ∷ []) r out'
+      → StepsLine line points row out r points' row' out' × (r ≤ length out')
+  ends_accepted a la b lb r out' first signs last =
       let lines : List ℕ = sign_lines 0 (signs_of castilian signs.text) in
-      let middle : PagePrints q lines s = record { same = same; prints = signs.prints } in
       ended (print "ok" ++ lines ++ line_end ∷ [])
-      (prints_signs signs.text (subst (λ (k : Row). ReadsAs castilian k signs.text) (row_is line points row n points' row' shown) signs.reads)) t.at out'
-      (page_line out p (print "ok" ++ lines ++ line_end ∷ []) t out' lent front left
-      (page_on p (print "ok" ++ lines) s (line_end ∷ []) t (page_on p (print "ok") q lines s first middle) last))
+      (prints_signs signs.text (subst (λ (k : Row). ReadsAs castilian k signs.text) (row_is line points row n points' row' shown) signs.reads)) r out'
+      (prints_on out 0 (print "ok" ++ lines) b lb (line_end ∷ []) r out' (prints_on out 0 (print "ok") a la lines b lb first signs.prints) last)
+
+  -- the same on a page, from its front: `ok`, the signs, the end
+  pub ends_accepted_page : (p q s t : Page) (out' : List ℕ) → p.out.now ≡ out → p.at ≡ 0 → out' ≡ t.out.now
+      → PagePrints p (print "ok") q → s.out.ghost_name ≡ q.out.ghost_name → SignsPrinted (take n row') q.out.now q.at s.at s.out.now → PagePrints s (line_end ∷ []) t
+      → StepsLine line points row out t.at points' row' out' × (t.at ≤ length out')
+  ends_accepted_page p q s t out' lent front left first same signs last =
+      ends_accepted q.at q.out.now s.at s.out.now t.at out' (page_first out p (print "ok") q lent front first) signs (page_last s (line_end ∷ []) t out' left last)
