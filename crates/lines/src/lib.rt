@@ -19,6 +19,7 @@ pub struct Taken {
 }
 
 // One more byte of a line: it goes behind the `held` bytes that `line` holds, where there is room, and is counted, up to one more than the room has.
+// It compares by `if`: as a `match` on `held.cmp(..)` each byte of a line takes twice the instructions (docs/DESIGN-PASS.md, "Speed, tried").
 fn hold(line: &mut [u8], held: usize, byte: u8) -> usize
     ensures { Keeps line.old held (byte ∷ []) result line.new }
 {
