@@ -1,8 +1,8 @@
 #!/bin/sh
 # prints: crates/deeds/src/table.rt
 #
-# What is done at a place of a text, from tools/deeds.txt, as code. The names of states and classes are read from crates/entries/src/lib.rt, and which deeds are
-# written, asked and refused from crates/deeds/src/lib.rt: BEGINS_RUN of the table is `BeginsRun`, of the enum `Question`.
+# What is done at a place of a text, from tools/deeds.txt, as code. Which deeds are written, asked and refused is read from crates/deeds/src/lib.rt: BEGINS_RUN of the
+# table is `BeginsRun`, of the enum `Question`.
 #
 # Nothing printed is trusted: the prover compares the table with the rules.
 set -eu
@@ -14,24 +14,27 @@ export LC_ALL
 
 cat <<'TEXT'
 // Printed by tools/print-deeds.sh from tools/deeds.txt: change that, and print it again. The check compares it with the rules.
-// What is done at a place, by its state and the class of its code point: a row for each state.
-ghost use Rattle.std.specs.Prelude.{◌≡◌};
-ghost use Rattle.entries.specs.Numbers.{class_index, state_number};
-ghost use Rattle.deeds.specs.Stages.{deed_of};
+// What is done at a place, by its state and the class of its code point: 16 rows of 16, a row for each state.
+ghost use Rattle.std.specs.Prelude.{◌≡◌, ◌<◌, get_or};
+ghost use Rattle.deeds.specs.Acts.{no_sign};
+ghost use Rattle.deeds.specs.Deeds.{deeds, deed_count};
 ghost use Rattle.deeds.specs.Numbers.{deed_number};
 
 use crate::{Act, Deed, Fault, Question};
-use entries::{Class, State};
 
-#[tactic(auto, unfolding(crate::specs::Stages::deed_of, crate::specs::Deeds::deeds))]
-pub fn deed_of(state: State, class: Class) -> Deed
-    ensures { deed_number result ≡ deed_of (state_number state) (class_index class) }
+// There is no other place in the table than these.
+#[tactic(auto, unfolding(crate::specs::Deeds::deeds))]
+pub fn deed_at(place: usize) -> Deed
+    requires { place < deed_count }
+    ensures { deed_number result ≡ get_or deeds place no_sign }
 {
-    match (state, class) {
+    match place {
 TEXT
 
-# An arm for each place of a state and a class, under a comment for each state.
-awk -f tools/deeds.awk tools/deeds.txt | awk -F '\t' '
+# An arm for each place, under a comment for each state. The last is for all that the others are not.
+places=$(awk -f tools/deeds.awk tools/deeds.txt)
+last=$(printf '%s\n' "$places" | awk -F '\t' 'END { print $1 }')
+printf '%s\n' "$places" | awk -F '\t' -v last="$last" '
 function camel(name,  word, count, i, said) {
     count = split(tolower(name), word, "_")
     for (i = 1; i <= count; i++) said = said toupper(substr(word[i], 1, 1)) substr(word[i], 2)
@@ -40,16 +43,14 @@ function camel(name,  word, count, i, said) {
 BEGIN { as["Act"] = "Write"; as["Question"] = "Ask"; as["Fault"] = "Refuse" }
 FILENAME != "-" && /^pub enum / { split($0, word, " "); its_enum = word[3]; next }
 FILENAME != "-" && /^}/ { its_enum = "" }
-FILENAME != "-" && its_enum == "Class" { class[classes++] = substr($1, 5, length($1) - 5); next }
 FILENAME != "-" && its_enum in as { kind[substr($1, 5, length($1) - 5)] = its_enum }
 FILENAME != "-" { next }
-$2 ~ /^NO_STATE/ || $1 % 16 >= classes { next }
 $2 != state { state = $2; print "        // " state }
 {
     deed = camel($3)
     if (!(deed in kind)) { print "print-deeds: no enum has " deed > "/dev/stderr"; exit 1 }
-    print "        (State::" camel(state) ", Class::" class[$1 % 16] ") => Deed::" as[kind[deed]] "(" kind[deed] "::" deed "),"
-}' crates/entries/src/lib.rt crates/deeds/src/lib.rt -
+    print "        " ($1 == last ? "_" : $1) " => Deed::" as[kind[deed]] "(" kind[deed] "::" deed "), // " $4
+}' crates/deeds/src/lib.rt -
 
 cat <<'TEXT'
     }

@@ -5,11 +5,12 @@
 #![tactic(auto)]
 
 ghost use Rattle.std.specs.Prelude.{◌≡◌, ◌/◌, ◌%◌};
-ghost use Rattle.entries.specs.Numbers.{state_number};
+ghost use Rattle.entries.specs.Numbers.{class_index, state_number};
 ghost use Rattle.deeds.specs.Acts.{ways};
-ghost use Rattle.deeds.specs.Numbers.{way_index, act_number};
+ghost use Rattle.deeds.specs.Stages.{deed_of};
+ghost use Rattle.deeds.specs.Numbers.{way_index, act_number, deed_number};
 
-use entries::State;
+use entries::{Class, State};
 
 mod numbers;
 mod table;
@@ -18,7 +19,11 @@ pub use numbers::{
     BEGINS_NUMBER, BEGINS_RUN, NO_SIGN, NUMBER_POINT, ONE_UNDER, OUTSIDE_FORM, QUESTIONS,
     SHARES_CELLS, WAYS, deed_by_number,
 };
-pub use table::deed_of;
+
+// The table has a row for each state: how many classes and how many states there is room for.
+const CLASS_PLACES: usize = 16;
+
+const STATE_PLACES: usize = 16;
 
 // The ways of writing: its own cells; after 46; after 46-46; after 5; after 3456; the lower digit after 3456; the lower digit; no cell, though
 // it has one.
@@ -120,4 +125,13 @@ impl Act {
             Act::TheDash => State::Dashed,
         }
     }
+}
+
+// What the table says of a state and a class. (The place is one number, so that it is one jump to the code of the deed, whatever state and class it follows from: of a
+// `match` on both the compiler makes one by the state and one by the class. Both numbers are below 16, so that the remainders are they.)
+#[tactic(auto, unfolding(crate::specs::Stages::deed_of))]
+pub fn deed_of(state: State, class: Class) -> Deed
+    ensures { deed_number result ≡ deed_of (state_number state) (class_index class) }
+{
+    table::deed_at(state as usize % STATE_PLACES * CLASS_PLACES + class as usize % CLASS_PLACES)
 }

@@ -6,7 +6,7 @@ ghost use Rattle.entries.specs.Numbers.{class_index, state_number};
 ghost use Rattle.deeds.specs.Stages.{deed_of};
 ghost use Rattle.deeds.specs.Numbers.{deed_number};
 
-use crate::{Deed, Fault, Question, deed_of};
+use crate::{CLASS_PLACES, Deed, Fault, Question, STATE_PLACES, deed_of};
 use entries::{Class, State};
 
 // What is written has a way of writing and the state after it in one number: state * WAYS + way.
@@ -29,11 +29,6 @@ pub const NO_SIGN: usize = 92;
 pub const OUTSIDE_FORM: usize = 93;
 
 pub const SHARES_CELLS: usize = 94;
-
-// How many classes and how many states there is room for.
-const CLASS_PLACES: usize = 16;
-
-const STATE_PLACES: usize = 16;
 
 impl Deed {
     // Its number.
