@@ -1,29 +1,47 @@
--- Laws of a walk that the pages name, over `Runs`, which says where a walk is in the middle of a part: a turn; more signs; a part within; a stretch, written or only
--- counted; the ends of a stretch and of a walk; a quick reading that gives a sign. Assumes nothing.
+-- Laws of a walk that the pages name, over `Runs`, which says where a walk is in the middle of a part: the start; how many code points at most, and what `put` asks for;
+-- a turn; more signs; a part within; a stretch, written or only counted; the ends of a stretch and of a walk; a quick reading that gives a sign. Assumes nothing.
 use mathlib.Core.Path.{◌≡◌, sym, ap, ◌∙◌}
 use mathlib.Core.Logic.{inl, inr}
 use mathlib.Core.Option.{none}
 use mathlib.Core.List.{List, []}
-use Prim.Native.Nat.{ℕ, ◌+◌, ◌≤◌, ◌<◌}
+use Prim.Native.Nat.{ℕ, ◌+◌, ◌*◌, ◌≤◌, ◌<◌}
 use native.Mathlib.Omega.{arith}
+use native.Mathlib.Nat.{add-zero}
 use lib.ListN.{length, drop}
 use Rattle.std.specs.declared.option.Option as rust
 use Rattle.std.specs.Prelude.{Some, Ok, Err}
 use Rattle.rules.specs.Cells.{Row}
+use Rattle.rules.specs.Refusals.{longest_row}
 use Rattle.pairs.specs.Opened.{open_states}
 use Rattle.readings.specs.Modes.{mode_count, number_of, mode_at}
 use Rattle.readings.specs.Left.{left}
 use Rattle.readings.specs.Print.{points}
 use Rattle.readings.specs.declared.Step.{Step}
-use Rattle.readings.proofs.Numbers.{number_back}
+use Rattle.readings.proofs.Numbers.{number_back, number_small}
 use Rattle.readings.proofs.Turning.{Turn, turn_of}
 use Rattle.signs.specs.Runs.{run_of, Quick, InRun}
-use Rattle.walks.specs.Walks.{Wrote, uncounted, Strides, strides_on, strides_nowhere, Runs, Goes, goes_on, goes_nowhere}
+use Rattle.walks.specs.Walks.{Wrote, Room, most_points, uncounted, Strides, strides_on, strides_nowhere, Runs, Goes, goes_on, goes_nowhere}
 use Rattle.walks.specs.declared.Stand.{Stand}
 use Rattle.walks.specs.declared.NoText.{NoText}
-use Rattle.walks.proofs.Walking.{TurnOf, behind, runs_turn, runs_join, runs_wider, strides_runs, unwritten_runs, goes_runs, leads_nowhere, cells_join_on}
+use Rattle.walks.proofs.Writing.{wrote_none}
+use Rattle.walks.proofs.Walking.{leads_none, TurnOf, behind, runs_few, runs_turn, runs_join, runs_wider, strides_runs, unwritten_runs, goes_runs, leads_nowhere, cells_join_on}
+
+pub mid_start : (row : Row) (stop : ℕ) (v : Stand) (t : List ℕ) → v.at ≤ length row → v.opened < open_states → Runs row stop v t t v
+mid_start row stop v t within few =
+    record {
+      signs = [];
+      leads = leads_none row stop v.at (number_of v.mode) v.opened within (number_small v.mode) few;
+      count = sym (add-zero v.count);
+      wrote = wrote_none t v.count;
+    }
 
 module _ {row : Row} {stop : ℕ} {v w : Stand} {t₀ t : List ℕ} (mid : Runs row stop v t₀ t w) where
+  pub mid_few : v.count ≤ 2 * v.at → w.count ≤ 2 * w.at
+  mid_few = runs_few mid
+
+  pub mid_put : length row ≤ longest_row → v.count ≤ 2 * v.at → (limit : ℕ) → Room limit w.at w.count (length t₀) → w.at < limit → (w.count ≤ most_points) × (w.count < length t)
+  mid_put short few limit room l = (omega (arith, mid_few few, mid.leads.within, short), omega (arith, mid.wrote.0, room, l))
+
   pub mid_on : (x : Step) → TurnOf row w x → w.at < stop → {r : ℕ} {t' : List ℕ} → (r ≡ w.count + length (points x.lead x.point)) × Wrote t t' w.count (points x.lead x.point)
       → Runs row stop v t₀ t' (behind x r)
   mid_on = runs_turn mid
