@@ -4,8 +4,8 @@
 #     48 NUMBER SEPARATED_LETTER a to j
 #
 # tools/print-deeds.sh and tools/print-deed-list.sh print from these lines. A line that cannot be read is refused, and so is a
-# table in which a class has no deed in some state, or two. A place of no state or of no class has NO_SIGN: a list has a deed at
-# each of the 256 places, and the code has those alone of which the enums have a state and a class.
+# table in which a class has no deed in some state, or two. A place of no state or of no class has NO_SIGN: with all 256 there,
+# the compiled look-up has nothing to test.
 #
 # Run it from the top of the repository with LC_ALL=C: awk -f tools/deeds.awk tools/deeds.txt
 
